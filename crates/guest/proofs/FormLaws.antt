@@ -1,0 +1,158 @@
+-- What a program's form says of every run of it: what stores nothing, what reads nothing, what refuses without a store.
+-- Assumes nothing.
+use mathlib.Core.Path.{_≡_, refl, sym}
+use mathlib.Core.Bool.{Bool, true, false}
+use mathlib.Core.List.{List, [], _∷_}
+use Prim.Native.Nat.{ℕ, _+_}
+use native.Mathlib.Omega.{arith}
+use lib.ListN.{length}
+use Rattle.guest.specs.Bytes.{inside}
+use Rattle.guest.specs.Prog.{Mem, Prog, done, get, put, block, splice, run, Reads, stores, choose, bind, each, Result, ok, refuse, need, passed, andThen, every}
+use Rattle.guest.specs.Forms.{Quiet, Blind, Firm, Clean, Gives}
+use Rattle.guest.proofs.ReadLaws.{no-store}
+
+-- a refusal is no value
+pub refuse-ok : {A : Type 0} (c : ℕ) (x : A) → refuse c ≡ ok x → ⊥
+refuse-ok c x e = let z : _≡_ {A = ℕ} 0 1 = cc in omega arith
+
+-- ---- no path stores
+
+pub quiet-stores : {A : Type 0} (p : Prog A) (m : Mem) → Quiet p → stores p m ≡ []
+unfolding Quiet stores
+quiet-stores (done r) m f = refl
+quiet-stores (get a n k) m f = quiet-stores (k (block m a n)) m (f (block m a n))
+
+-- memory and count stay as they were
+pub quiet-run : {A : Type 0} (p : Prog A) (m : Mem) (s : ℕ) → Quiet p → (run p m s .memory ≡ m) × (run p m s .stored ≡ s)
+quiet-run p m s f = no-store p m s (quiet-stores p m f)
+
+pub quiet-choose : {A : Type 0} (b : Bool) (p q : Prog A) → Quiet p → Quiet q → Quiet (choose b p q)
+unfolding choose
+quiet-choose true p q f g = f
+quiet-choose false p q f g = g
+
+pub quiet-need : {A : Type 0} (len b n : ℕ) (p : Prog (Result A)) → Quiet p → Quiet (need len b n p)
+unfolding need Quiet
+quiet-need len b n p f = quiet-choose (inside len b n) p (done (refuse 193)) f tt
+
+pub quiet-bind : {A B : Type 0} (p : Prog A) (f : A → Prog B) → Quiet p → ((x : A) → Quiet (f x)) → Quiet (bind p f)
+unfolding Quiet bind
+quiet-bind (done x) f q g = g x
+quiet-bind (get a n k) f q g = λ bs. quiet-bind (k bs) f (q bs) g
+
+passed-quiet : {A B : Type 0} (f : A → Prog (Result B)) (r : Result A) → ((x : A) → Quiet (f x)) → Quiet (passed f r)
+unfolding passed Quiet
+passed-quiet f (ok x) g = g x
+passed-quiet f (refuse c) g = tt
+
+pub quiet-then : {A B : Type 0} (p : Prog (Result A)) (f : A → Prog (Result B)) → Quiet p → ((x : A) → Quiet (f x)) → Quiet (andThen p f)
+unfolding andThen
+quiet-then p f q g = quiet-bind p (passed f) q (λ r. passed-quiet f r g)
+
+pub quiet-every : {A : Type 0} (is : List ℕ) (f : ℕ → Prog (Result Unit)) (p : Prog (Result A)) → ((i : ℕ) → Quiet (f i)) → Quiet p → Quiet (every is f p)
+unfolding every
+quiet-every [] f p g q = q
+quiet-every (i ∷ is) f p g q = quiet-then (f i) _ (g i) (λ _. quiet-every is f p g q)
+
+-- ---- no path reads
+
+pub blind-reads : {A : Type 0} (p : Prog A) (m : Mem) (a : ℕ) → Blind p → Reads p m a → ⊥
+unfolding Blind Reads
+blind-reads (done x) m a b r = r
+blind-reads (put c bs p) m a b r = blind-reads p (splice m c bs) a b (r .1)
+
+pub blind-choose : {A : Type 0} (b : Bool) (p q : Prog A) → Blind p → Blind q → Blind (choose b p q)
+unfolding choose
+blind-choose true p q f g = f
+blind-choose false p q f g = g
+
+pub blind-bind : {A B : Type 0} (p : Prog A) (f : A → Prog B) → Blind p → ((x : A) → Blind (f x)) → Blind (bind p f)
+unfolding Blind bind
+blind-bind (done x) f b g = g x
+blind-bind (put a bs p) f b g = blind-bind p f b g
+
+pub blind-each : {A : Type 0} (is : List ℕ) (f : ℕ → A → Prog A) (x : A) → ((i : ℕ) (y : A) → Blind (f i y)) → Blind (each is f x)
+unfolding each Blind
+blind-each [] f x b = tt
+blind-each (i ∷ is) f x b = blind-bind (f i x) (each is f) (b i x) (λ y. blind-each is f y b)
+
+-- ---- no refusal behind a store
+
+firm-value : {A : Type 0} (p : Prog (Result A)) (m : Mem) (s c : ℕ) → Firm p → run p m s .value ≡ refuse c → ⊥
+unfolding Firm run
+firm-value (done (ok x)) m s c f e = refuse-ok c x (sym e)
+firm-value (get a n k) m s c f e = firm-value (k (block m a n)) m s c (f (block m a n)) e
+firm-value (put a bs p) m s c f e = firm-value p (splice m a bs) (s + length bs) c f e
+
+clean-stores : {A : Type 0} (p : Prog (Result A)) (m : Mem) (s c : ℕ) → Clean p → run p m s .value ≡ refuse c → stores p m ≡ []
+unfolding Clean run stores
+clean-stores (done r) m s c f e = refl
+clean-stores (get a n k) m s c f e = clean-stores (k (block m a n)) m s c (f (block m a n)) e
+clean-stores (put a bs p) m s c f e = absurd (firm-value p (splice m a bs) (s + length bs) c f e)
+
+-- a refusal changes nothing
+pub clean-refusal : {A : Type 0} (p : Prog (Result A)) (m : Mem) (s c : ℕ) → Clean p → run p m s .value ≡ refuse c
+    → (run p m s .memory ≡ m) × (run p m s .stored ≡ s)
+clean-refusal p m s c f e = no-store p m s (clean-stores p m s c f e)
+
+pub firm-clean : {A : Type 0} (p : Prog (Result A)) → Firm p → Clean p
+unfolding Firm Clean
+firm-clean (done r) f = tt
+firm-clean (get a n k) f = λ bs. firm-clean (k bs) (f bs)
+firm-clean (put a bs p) f = f
+
+pub quiet-clean : {A : Type 0} (p : Prog (Result A)) → Quiet p → Clean p
+unfolding Quiet Clean
+quiet-clean (done r) f = tt
+quiet-clean (get a n k) f = λ bs. quiet-clean (k bs) (f bs)
+
+pub firm-bind : {A B : Type 0} (p : Prog A) (f : A → Prog (Result B)) → ((x : A) → Firm (f x)) → Firm (bind p f)
+unfolding Firm bind
+firm-bind (done x) f g = g x
+firm-bind (get a n k) f g = λ bs. firm-bind (k bs) f g
+firm-bind (put a bs p) f g = firm-bind p f g
+
+pub clean-choose : {A : Type 0} (b : Bool) (p q : Prog (Result A)) → Clean p → Clean q → Clean (choose b p q)
+unfolding choose
+clean-choose true p q f g = f
+clean-choose false p q f g = g
+
+pub clean-need : {A : Type 0} (len b n : ℕ) (p : Prog (Result A)) → Clean p → Clean (need len b n p)
+unfolding need Clean
+clean-need len b n p f = clean-choose (inside len b n) p (done (refuse 193)) f tt
+
+pub clean-then : {A B : Type 0} (p : Prog (Result A)) (f : A → Prog (Result B)) → Quiet p → ((x : A) → Clean (f x)) → Clean (andThen p f)
+unfolding andThen bind passed Quiet Clean
+clean-then (done (ok x)) f q g = g x
+clean-then (done (refuse c)) f q g = tt
+clean-then (get a n k) f q g = λ bs. clean-then (k bs) f (q bs) g
+
+pub clean-every : {A : Type 0} (is : List ℕ) (f : ℕ → Prog (Result Unit)) (p : Prog (Result A)) → ((i : ℕ) → Quiet (f i)) → Clean p → Clean (every is f p)
+unfolding every
+clean-every [] f p g c = c
+clean-every (i ∷ is) f p g c = clean-then (f i) _ (g i) (λ _. clean-every is f p g c)
+
+-- ---- every path ends in a value of which P holds
+
+pub gives-value : {A : Type 0} (P : A → Type 0) (p : Prog A) (m : Mem) (s : ℕ) → Gives P p → P (run p m s .value)
+unfolding Gives run
+gives-value P (done x) m s g = g
+gives-value P (get a n k) m s g = gives-value P (k (block m a n)) m s (g (block m a n))
+gives-value P (put a bs p) m s g = gives-value P p (splice m a bs) (s + length bs) g
+
+pub gives-choose : {A : Type 0} (P : A → Type 0) (b : Bool) (p q : Prog A) → Gives P p → Gives P q → Gives P (choose b p q)
+unfolding choose
+gives-choose P true p q f g = f
+gives-choose P false p q f g = g
+
+-- what the first part's values have, the second may use
+pub gives-bind : {A B : Type 0} (Q : A → Type 0) (P : B → Type 0) (p : Prog A) (f : A → Prog B) → Gives Q p → ((x : A) → Q x → Gives P (f x)) → Gives P (bind p f)
+unfolding Gives bind
+gives-bind Q P (done x) f q g = g x q
+gives-bind Q P (get a n k) f q g = λ bs. gives-bind Q P (k bs) f (q bs) g
+gives-bind Q P (put a bs p) f q g = gives-bind Q P p f q g
+
+pub gives-each : {A : Type 0} (P : A → Type 0) (is : List ℕ) (f : ℕ → A → Prog A) (x : A) → P x → ((i : ℕ) (y : A) → P y → Gives P (f i y)) → Gives P (each is f x)
+unfolding each Gives
+gives-each P [] f x h g = h
+gives-each P (i ∷ is) f x h g = gives-bind P P (f i x) (each is f) (g i x h) (λ y q. gives-each P is f y q g)

@@ -1,0 +1,10 @@
+pub mod SpliceLaws
+pub mod LentLaws
+pub mod WordLaws
+pub mod CopyLaws
+pub mod BitLaws
+pub mod RunLaws
+pub mod LoopLaws
+pub mod ReadLaws
+pub mod FormLaws
+pub mod TraceLaws

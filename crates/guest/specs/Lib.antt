@@ -1,0 +1,4 @@
+pub mod Bytes
+pub mod Prog
+pub mod Forms
+pub mod Trace
