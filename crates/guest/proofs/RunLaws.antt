@@ -103,3 +103,8 @@ pub one-end : {A : Type 0} {p : Prog A} {m : Mem} {s : ℕ} {x y : A} {m₁ m₂
 one-end {A} d e =
     let q = sym (d .ends) ∙ e .ends in
     (ap (λ (r : Ran A). r .value) q, ap (λ (r : Ran A). r .memory) q, ap (λ (r : Ran A). r .stored) q)
+
+-- the same end from another count
+pub ends-from : {A : Type 0} {p : Prog A} {m : Mem} {x : A} {m′ : Mem} {n : ℕ} → Ends p m 0 x m′ n → (s : ℕ) → Ends p m s x m′ (s + n)
+ends-from {A} {p} {m} e s =
+    record { ends = run-from p m s ∙ ap (λ (r : Ran A). ran (r .value) (r .memory) (s + r .stored)) (e .ends) }
