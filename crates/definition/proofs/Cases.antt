@@ -8,9 +8,7 @@ use lib.ListN.{getD, replicate}
 use Rattle.guest.specs.Bytes.{number, bytes, inside, count, those}
 use Rattle.guest.specs.Prog.{Mem, run, splice, choose, bind, each, need, passed, andThen, every, all}
 use Rattle.guest.specs.Trace.{Event, call, store, Course, step, course, left}
-use Rattle.definition.specs.declared.Endpoint.{Endpoint}
-use Rattle.definition.specs.declared.Table.{Table}
-use Rattle.definition.specs.declared.Answer.{Answer}
+use Rattle.definition.specs.Types.{Endpoint, Table, Answer}
 use Rattle.definition.specs.Table.{endpointOf, slotOf, withEndpoint, withSlot, withRegisters, freshTable, lookup, isZero, endpointOk, usedOk, noEndpoint, slotOk, wellFormed}
 use Rattle.definition.specs.Steps.{entry, stepBy, launchAt, terminateAt}
 use Rattle.definition.specs.Steps as steps

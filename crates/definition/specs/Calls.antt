@@ -6,13 +6,7 @@ use Prim.Native.Nat.{ℕ}
 use lib.Dec.{leb}
 use lib.ListN.{length}
 use Rattle.guest.specs.Prog.{Mem, Prog, done, bind, run, Result, ok, refuse}
-use Rattle.definition.specs.declared.Dequeue.{Dequeue}
-use Rattle.definition.specs.declared.Look.{Look}
-use Rattle.definition.specs.declared.Given.{Given}
-use Rattle.definition.specs.declared.Input.the-variants.{Doorbell, Stop, Reset, SetDequeue, Ok, Stall, TransactionError, TrbError}
-use Rattle.definition.specs.declared.Table.{Table}
-use Rattle.definition.specs.declared.Answer.{Answer}
-use Rattle.definition.specs.declared.Outcome.{Outcome}
+use Rattle.definition.specs.Types.{Dequeue, Look, Given, Doorbell, Stop, Reset, SetDequeue, Ok, Stall, TransactionError, TrbError, Table, Answer, Outcome}
 use Rattle.definition.specs.Table.{freshTable}
 use Rattle.definition.specs.Commands as commands
 use Rattle.definition.specs.Commands.{Told, answer, usbTypes, endpointCall}

@@ -6,15 +6,7 @@ use Prim.Native.Nat.{ℕ, _+_, _*_, _^_}
 use lib.Dec.{leb, eqb}
 use Rattle.guest.specs.Bytes.{number, _⊕_, count, those, setBits, typeOf, slotStateByte}
 use Rattle.guest.specs.Prog.{Prog, done, get, put, choose, bind, each, Result, ok, refuse, need, andThen, every}
-use Rattle.definition.specs.declared.Endpoint.{Endpoint}
-use Rattle.definition.specs.declared.Input.{Input}
-use Rattle.definition.specs.declared.SlotState.{SlotState}
-use Rattle.definition.specs.declared.SlotState.the-variants.{Free, Enabled, Default, Addressed, Configured}
-use Rattle.definition.specs.declared.Slot.{Slot}
-use Rattle.definition.specs.declared.Table.{Table}
-use Rattle.definition.specs.declared.Lookup.{Lookup}
-use Rattle.definition.specs.declared.Lookup.the-variants.{Used, Nothing}
-use Rattle.definition.specs.declared.Answer.{Answer}
+use Rattle.definition.specs.Types.{Endpoint, Input, SlotState, Free, Enabled, Default, Addressed, Configured, Slot, Table, Lookup, Used, Nothing, Answer}
 use Rattle.definition.specs.Table.{slotNumber, isDisabled, isFree, free, endpointOf, slotOf, withEndpoint, withSlot, withRegisters, lookup, wellFormed}
 use Rattle.definition.specs.Steps.{Stepped, step}
 use Rattle.definition.specs.Walks.{Walk, begin, terminate, terminateAll, copyLaunch}

@@ -7,15 +7,7 @@ use lib.Dec.{eqb, ltb}
 use lib.ListN.{getD}
 use Rattle.guest.specs.Bytes.{number, bytes, pointerOf, cycleOf}
 use Rattle.guest.specs.Prog.{Prog, done, get, put, choose, Result, ok, refuse}
-use Rattle.definition.specs.declared.EndpointState.{EndpointState}
-use Rattle.definition.specs.declared.EndpointState.the-variants.{Disabled, Waiting, InFlight, Halted, Error, StoppedContinuable, Stopped}
-use Rattle.definition.specs.declared.Endpoint.{Endpoint}
-use Rattle.definition.specs.declared.Given.{Given}
-use Rattle.definition.specs.declared.Given.the-variants.{At, Nowhere}
-use Rattle.definition.specs.declared.Input.{Input}
-use Rattle.definition.specs.declared.Input.the-variants.{Doorbell, Stop, Reset, SetDequeue, Terminate, Ok, Stall, TransactionError, TrbError}
-use Rattle.definition.specs.declared.Report.{Report}
-use Rattle.definition.specs.declared.Row.{Row}
+use Rattle.definition.specs.Types.{EndpointState, Disabled, Waiting, InFlight, Halted, Error, StoppedContinuable, Stopped, Endpoint, Given, At, Nowhere, Input, Doorbell, Stop, Reset, SetDequeue, Terminate, Ok, Stall, TransactionError, TrbError, Report, Row}
 use Rattle.definition.specs.Table.{endpointNumber, isDisabled, disabled}
 
 -- ---- the entries

@@ -7,15 +7,7 @@ use lib.Dec.{leb, eqb}
 use lib.ListN.{getD, set, replicate}
 use Rattle.guest.specs.Bytes.{_⊕_, inside, count}
 use Rattle.guest.specs.Prog.{all}
-use Rattle.definition.specs.declared.EndpointState.{EndpointState}
-use Rattle.definition.specs.declared.EndpointState.the-variants.{Disabled, Waiting, InFlight, Halted, Error, StoppedContinuable, Stopped}
-use Rattle.definition.specs.declared.Endpoint.{Endpoint}
-use Rattle.definition.specs.declared.SlotState.{SlotState}
-use Rattle.definition.specs.declared.SlotState.the-variants.{Free, Enabled, Default, Addressed, Configured}
-use Rattle.definition.specs.declared.Slot.{Slot}
-use Rattle.definition.specs.declared.Table.{Table}
-use Rattle.definition.specs.declared.Lookup.{Lookup}
-use Rattle.definition.specs.declared.Lookup.the-variants.{Used, Nothing}
+use Rattle.definition.specs.Types.{EndpointState, Disabled, Waiting, InFlight, Halted, Error, StoppedContinuable, Stopped, Endpoint, SlotState, Free, Enabled, Default, Addressed, Configured, Slot, Table, Lookup, Used, Nothing}
 
 -- ---- numbers of the states
 

@@ -5,8 +5,7 @@ use mathlib.Core.List.{List}
 use Prim.Native.Nat.{ℕ, _+_, _*_, _^_}
 use Rattle.guest.specs.Bytes.{number, _⊕_}
 use Rattle.guest.specs.Prog.{Prog, done, get, put, bind, each}
-use Rattle.definition.specs.declared.Endpoint.{Endpoint}
-use Rattle.definition.specs.declared.Table.{Table}
+use Rattle.definition.specs.Types.{Endpoint, Table}
 use Rattle.definition.specs.Table.{isDisabled, endpointOf, withEndpoint}
 use Rattle.definition.specs.Steps.{launchAt, terminateAt}
 
