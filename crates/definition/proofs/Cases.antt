@@ -1,20 +1,20 @@
 -- The hand-checked cases that are to be proved, as one statement over the definition, computed by the checker.
 -- Assumes nothing.
 use mathlib.Core.Path.{_≡_, refl}
-use mathlib.Core.Bool.{true, false}
+use mathlib.Core.Bool.{true}
 use mathlib.Core.List.{List, [], _∷_}
-use Prim.Native.Nat.{ℕ, _-_, _^_}
-use lib.ListN.{getD, replicate}
+use Prim.Native.Nat.{ℕ}
+use lib.ListN.{replicate}
 use Rattle.guest.specs.Bytes.{number, bytes, inside, count, those}
 use Rattle.guest.specs.Prog.{Mem, run, splice, choose, bind, each, need, passed, andThen, every, all}
-use Rattle.guest.specs.Trace.{Event, call, store, Course, step, course, left}
-use Rattle.definition.specs.Types.{Endpoint, Table, Answer}
+use Rattle.guest.specs.Trace.{Event, call, step, course, left}
+use Rattle.definition.specs.Types.{Answer}
 use Rattle.definition.specs.Table.{endpointOf, slotOf, withEndpoint, withSlot, withRegisters, freshTable, lookup, isZero, endpointOk, usedOk, noEndpoint, slotOk, wellFormed}
 use Rattle.definition.specs.Steps.{entry, stepBy, launchAt, terminateAt}
 use Rattle.definition.specs.Steps as steps
 use Rattle.definition.specs.Walks.{terminate, terminateAll, launch, copyLaunch}
 use Rattle.definition.specs.Commands as commands
-use Rattle.definition.specs.Calls.{Call, setLimit, setDcbaap, enableSlot, addressDevice, configureEndpoint, stopEndpoint, meaning, prog, counted}
+use Rattle.definition.specs.Calls.{Call, setLimit, setDcbaap, enableSlot, addressDevice, configureEndpoint, meaning, prog, counted}
 
 -- memory 4096; the entry at 264 holds 1024; the input context at 2048 has flags 3, byte 2116 = 32, and 3073 in the eight bytes at 2120
 memory : Mem

@@ -4,7 +4,6 @@ use mathlib.Core.Path.{_≡_}
 use mathlib.Core.Bool.{Bool, cond}
 use Prim.Native.Nat.{ℕ}
 use lib.Dec.{leb}
-use lib.ListN.{length}
 use Rattle.guest.specs.Prog.{Mem, Prog, done, bind, run, Result, ok, refuse}
 use Rattle.definition.specs.Types.{Dequeue, Look, Given, Doorbell, Stop, Reset, SetDequeue, Ok, Stall, TransactionError, TrbError, Table, Answer, Outcome}
 use Rattle.definition.specs.Table.{freshTable}

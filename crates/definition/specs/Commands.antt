@@ -2,12 +2,12 @@
 -- Assumes nothing.
 use mathlib.Core.Bool.{Bool, true, false, not, cond, _&&_, _||_}
 use mathlib.Core.List.{List, [], _∷_}
-use Prim.Native.Nat.{ℕ, _+_, _*_, _^_}
+use Prim.Native.Nat.{ℕ, _+_, _*_}
 use lib.Dec.{leb, eqb}
 use Rattle.guest.specs.Bytes.{number, _⊕_, count, those, setBits, typeOf, slotStateByte}
 use Rattle.guest.specs.Prog.{Prog, done, get, put, choose, bind, each, Result, ok, refuse, need, andThen, every}
 use Rattle.definition.specs.Types.{Endpoint, Input, SlotState, Free, Enabled, Default, Addressed, Configured, Slot, Table, Lookup, Used, Nothing, Answer}
-use Rattle.definition.specs.Table.{slotNumber, isDisabled, isFree, free, endpointOf, slotOf, withEndpoint, withSlot, withRegisters, lookup, wellFormed}
+use Rattle.definition.specs.Table.{isDisabled, isFree, free, endpointOf, slotOf, withEndpoint, withSlot, withRegisters, lookup, wellFormed}
 use Rattle.definition.specs.Steps.{Stepped, step}
 use Rattle.definition.specs.Walks.{Walk, begin, terminate, terminateAll, copyLaunch}
 

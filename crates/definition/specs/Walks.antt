@@ -1,6 +1,6 @@
 -- Launch and terminate of a slot's endpoints, with the masks and the root port of the answer.
 -- Assumes nothing.
-use mathlib.Core.Bool.{Bool, cond}
+use mathlib.Core.Bool.{cond}
 use mathlib.Core.List.{List}
 use Prim.Native.Nat.{ℕ, _+_, _*_, _^_}
 use Rattle.guest.specs.Bytes.{number, _⊕_}

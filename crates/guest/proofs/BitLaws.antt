@@ -1,7 +1,7 @@
 -- Laws of flag bits: those of a list, counted lists, the lowest set bit.
 -- Assumes nothing.
 use mathlib.Core.Path.{_≡_, refl, sym, ap, ap₂, _∙_}
-use mathlib.Core.Bool.{Bool, true, false, cond}
+use mathlib.Core.Bool.{cond}
 use mathlib.Core.List.{List, [], _∷_}
 use mathlib.Core.Logic.{_⊎_, inl, inr, ⊎-elim}
 use Prim.Native.Nat.{ℕ, zero, suc, _+_, _-_, _*_, _/_, _%_, _^_, _<_}
@@ -12,27 +12,6 @@ use lib.Bits.{bitAnd, and-step, and-self}
 use lib.Count.{trailingZeros}
 use lib.Dec.{eqb}
 use Rattle.guest.specs.Bytes.{count, those, setBits}
-
--- ---- a counted list
-
-pub count-none : (n i : ℕ) → n ≡ 0 → count n i ≡ []
-unfolding count
-count-none n i e = rw e
-
--- its first number apart, for a loop from i up to `end`
-pub count-first : (end i : ℕ) → i < end → count (end - i) i ≡ i ∷ count (end - (i + 1)) (i + 1)
-unfolding count
-count-first end i h = let k : end - i ≡ suc (end - (i + 1)) = omega arith in rw k
-
--- ---- those of a list that pass a test
-
-pub those-yes : (f : ℕ → Bool) (i : ℕ) (is : List ℕ) → f i ≡ true → those f (i ∷ is) ≡ i ∷ those f is
-unfolding those
-those-yes f i is e = rw e
-
-pub those-no : (f : ℕ → Bool) (i : ℕ) (is : List ℕ) → f i ≡ false → those f (i ∷ is) ≡ those f is
-unfolding those
-those-no f i is e = rw e
 
 -- ---- the set bits, lowest first
 

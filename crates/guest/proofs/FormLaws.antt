@@ -3,13 +3,15 @@
 use mathlib.Core.Path.{_≡_, refl, sym}
 use mathlib.Core.Bool.{Bool, true, false}
 use mathlib.Core.List.{List, [], _∷_}
-use Prim.Native.Nat.{ℕ, _+_}
+use Prim.Native.Nat.{ℕ, _+_, _≤_}
 use native.Mathlib.Omega.{arith}
 use lib.ListN.{length}
 use Rattle.guest.specs.Bytes.{inside}
 use Rattle.guest.specs.Prog.{Mem, Prog, done, get, put, block, splice, run, Reads, stores, choose, bind, each, Result, ok, refuse, need, passed, andThen, every}
 use Rattle.guest.specs.Forms.{Quiet, Blind, Firm, Clean, Gives}
 use Rattle.guest.proofs.ReadLaws.{no-store}
+use Rattle.guest.proofs.RunLaws.{inside-yes}
+use Rattle.guest.proofs.ListLaws.{All, none, more}
 
 -- a refusal is no value
 pub refuse-ok : {A : Type 0} (c : ℕ) (x : A) → refuse c ≡ ok x → ⊥
@@ -140,10 +142,15 @@ gives-value P (done x) m s g = g
 gives-value P (get a n k) m s g = gives-value P (k (block m a n)) m s (g (block m a n))
 gives-value P (put a bs p) m s g = gives-value P p (splice m a bs) (s + length bs) g
 
-pub gives-choose : {A : Type 0} (P : A → Type 0) (b : Bool) (p q : Prog A) → Gives P p → Gives P q → Gives P (choose b p q)
+-- each way may use that it is taken
+pub gives-choose : {A : Type 0} (P : A → Type 0) (b : Bool) (p q : Prog A) → (b ≡ true → Gives P p) → (b ≡ false → Gives P q) → Gives P (choose b p q)
 unfolding choose
-gives-choose P true p q f g = f
-gives-choose P false p q f g = g
+gives-choose P true p q f g = f refl
+gives-choose P false p q f g = g refl
+
+pub gives-need : {A : Type 0} (P : Result A → Type 0) (len a n : ℕ) (p : Prog (Result A)) → P (refuse 193) → (a + n ≤ len → Gives P p) → Gives P (need len a n p)
+unfolding need Gives
+gives-need P len a n p r f = gives-choose P (inside len a n) p (done (refuse 193)) (λ e. f (inside-yes len a n e)) (λ e. r)
 
 -- what the first part's values have, the second may use
 pub gives-bind : {A B : Type 0} (Q : A → Type 0) (P : B → Type 0) (p : Prog A) (f : A → Prog B) → Gives Q p → ((x : A) → Q x → Gives P (f x)) → Gives P (bind p f)
@@ -152,7 +159,28 @@ gives-bind Q P (done x) f q g = g x q
 gives-bind Q P (get a n k) f q g = λ bs. gives-bind Q P (k bs) f (q bs) g
 gives-bind Q P (put a bs p) f q g = gives-bind Q P p f q g
 
-pub gives-each : {A : Type 0} (P : A → Type 0) (is : List ℕ) (f : ℕ → A → Prog A) (x : A) → P x → ((i : ℕ) (y : A) → P y → Gives P (f i y)) → Gives P (each is f x)
+pub gives-then : {A B : Type 0} (Q : Result A → Type 0) (P : Result B → Type 0) (p : Prog (Result A)) (f : A → Prog (Result B)) → Gives Q p
+    → ((x : A) → Q (ok x) → Gives P (f x)) → ((c : ℕ) → Q (refuse c) → P (refuse c)) → Gives P (andThen p f)
+unfolding andThen passed Gives
+gives-then {A} {B} Q P p f q g h = gives-bind Q P p (passed f) q by
+  where
+    by : (r : Result A) → Q r → Gives P (passed f r)
+    by (ok x) q = g x q
+    by (refuse c) q = h c q
+
+-- a walk over a list whose numbers all have R keeps P
+pub gives-each : {A : Type 0} (R : ℕ → Type 0) (P : A → Type 0) (is : List ℕ) (f : ℕ → A → Prog A) (x : A) → All R is → P x
+    → ((i : ℕ) → R i → (y : A) → P y → Gives P (f i y)) → Gives P (each is f x)
 unfolding each Gives
-gives-each P [] f x h g = h
-gives-each P (i ∷ is) f x h g = gives-bind P P (f i x) (each is f) (g i x h) (λ y q. gives-each P is f y q g)
+gives-each R P [] f x a h g = h
+gives-each R P (i ∷ is) f x (more r a) h g = gives-bind P P (f i x) (each is f) (g i r x h) (λ y q. gives-each R P is f y a q g)
+
+-- past a check at each of a list, what each check shows holds of them all
+pub gives-every : {A : Type 0} (R : ℕ → Type 0) (P : Result A → Type 0) (is : List ℕ) (f : ℕ → Prog (Result Unit)) (p : Prog (Result A))
+    → ((i : ℕ) → Gives (λ r. (r ≡ ok tt → R i) × ((c : ℕ) → r ≡ refuse c → P (refuse c))) (f i)) → (All R is → Gives P p) → Gives P (every is f p)
+unfolding every
+gives-every R P [] f p g h = h none
+gives-every R P (i ∷ is) f p g h =
+    gives-then _ P (f i) (λ _. every is f p) (g i)
+    (λ x q. gives-every R P is f p g (λ a. h (more (q .0 refl) a)))
+    (λ c q. q .1 c refl)

@@ -1,4 +1,5 @@
 pub mod SpliceLaws
+pub mod ListLaws
 pub mod LentLaws
 pub mod WordLaws
 pub mod CopyLaws
