@@ -1,2 +1,11 @@
 pub mod TableLaws
+pub mod CheckLaws
+pub mod PieceLaws
+pub mod AddressLaws
+pub mod ConfigureLaws
+pub mod HeadLaws
+pub mod CleanLaws
+pub mod CodeLaws
+pub mod EnableLaws
+pub mod DemandLaws
 pub mod Cases

@@ -4,18 +4,13 @@ use mathlib.Core.Path.{_≡_, refl, sym}
 use mathlib.Core.Bool.{Bool, true, false}
 use mathlib.Core.List.{List, [], _∷_}
 use Prim.Native.Nat.{ℕ, _+_, _≤_}
-use native.Mathlib.Omega.{arith}
 use lib.ListN.{length}
 use Rattle.guest.specs.Bytes.{inside}
 use Rattle.guest.specs.Prog.{Mem, Prog, done, get, put, block, splice, run, Reads, stores, choose, bind, each, Result, ok, refuse, need, passed, andThen, every}
 use Rattle.guest.specs.Forms.{Quiet, Blind, Firm, Clean, Gives}
 use Rattle.guest.proofs.ReadLaws.{no-store}
-use Rattle.guest.proofs.RunLaws.{inside-yes}
+use Rattle.guest.proofs.RunLaws.{inside-yes, refuse-ok}
 use Rattle.guest.proofs.ListLaws.{All, none, more}
-
--- a refusal is no value
-pub refuse-ok : {A : Type 0} (c : ℕ) (x : A) → refuse c ≡ ok x → ⊥
-refuse-ok c x e = let z : _≡_ {A = ℕ} 0 1 = cc in omega arith
 
 -- ---- no path stores
 
@@ -27,6 +22,10 @@ quiet-stores (get a n k) m f = quiet-stores (k (block m a n)) m (f (block m a n)
 -- memory and count stay as they were
 pub quiet-run : {A : Type 0} (p : Prog A) (m : Mem) (s : ℕ) → Quiet p → (run p m s .memory ≡ m) × (run p m s .stored ≡ s)
 quiet-run p m s f = no-store p m s (quiet-stores p m f)
+
+pub quiet-done : {A : Type 0} (x : A) → Quiet (done x)
+unfolding Quiet
+quiet-done x = tt
 
 pub quiet-choose : {A : Type 0} (b : Bool) (p q : Prog A) → Quiet p → Quiet q → Quiet (choose b p q)
 unfolding choose
@@ -63,6 +62,10 @@ unfolding Blind Reads
 blind-reads (done x) m a b r = r
 blind-reads (put c bs p) m a b r = blind-reads p (splice m c bs) a b (r .1)
 
+pub blind-done : {A : Type 0} (x : A) → Blind (done x)
+unfolding Blind
+blind-done x = tt
+
 pub blind-choose : {A : Type 0} (b : Bool) (p q : Prog A) → Blind p → Blind q → Blind (choose b p q)
 unfolding choose
 blind-choose true p q f g = f
@@ -72,6 +75,12 @@ pub blind-bind : {A B : Type 0} (p : Prog A) (f : A → Prog B) → Blind p → 
 unfolding Blind bind
 blind-bind (done x) f b g = g x
 blind-bind (put a bs p) f b g = blind-bind p f b g
+
+pub blind-then : {A B : Type 0} (p : Prog (Result A)) (f : A → Prog (Result B)) → Blind p → ((x : A) → Blind (f x)) → Blind (andThen p f)
+unfolding andThen bind passed Blind
+blind-then (done (ok x)) f b g = g x
+blind-then (done (refuse c)) f b g = tt
+blind-then (put a bs p) f b g = blind-then p f b g
 
 pub blind-each : {A : Type 0} (is : List ℕ) (f : ℕ → A → Prog A) (x : A) → ((i : ℕ) (y : A) → Blind (f i y)) → Blind (each is f x)
 unfolding each Blind
@@ -108,11 +117,30 @@ unfolding Quiet Clean
 quiet-clean (done r) f = tt
 quiet-clean (get a n k) f = λ bs. quiet-clean (k bs) (f bs)
 
+pub firm-ok : {A : Type 0} (x : A) → Firm (done (ok x))
+unfolding Firm
+firm-ok x = tt
+
+pub clean-done : {A : Type 0} (r : Result A) → Clean (done r)
+unfolding Clean
+clean-done r = tt
+
 pub firm-bind : {A B : Type 0} (p : Prog A) (f : A → Prog (Result B)) → ((x : A) → Firm (f x)) → Firm (bind p f)
 unfolding Firm bind
 firm-bind (done x) f g = g x
 firm-bind (get a n k) f g = λ bs. firm-bind (k bs) f g
 firm-bind (put a bs p) f g = firm-bind p f g
+
+pub firm-choose : {A : Type 0} (b : Bool) (p q : Prog (Result A)) → Firm p → Firm q → Firm (choose b p q)
+unfolding choose
+firm-choose true p q f g = f
+firm-choose false p q f g = g
+
+pub firm-then : {A B : Type 0} (p : Prog (Result A)) (f : A → Prog (Result B)) → Firm p → ((x : A) → Firm (f x)) → Firm (andThen p f)
+unfolding andThen bind passed Firm
+firm-then (done (ok x)) f h g = g x
+firm-then (get a n k) f h g = λ bs. firm-then (k bs) f (h bs) g
+firm-then (put a bs p) f h g = firm-then p f h g
 
 pub clean-choose : {A : Type 0} (b : Bool) (p q : Prog (Result A)) → Clean p → Clean q → Clean (choose b p q)
 unfolding choose
@@ -129,12 +157,32 @@ clean-then (done (ok x)) f q g = g x
 clean-then (done (refuse c)) f q g = tt
 clean-then (get a n k) f q g = λ bs. clean-then (k bs) f (q bs) g
 
+-- a part that may store, and behind it no refusal
+pub clean-firm : {A B : Type 0} (p : Prog (Result A)) (f : A → Prog (Result B)) → Clean p → ((x : A) → Firm (f x)) → Clean (andThen p f)
+unfolding andThen bind passed Clean
+clean-firm (done (ok x)) f c g = firm-clean (f x) (g x)
+clean-firm (done (refuse n)) f c g = tt
+clean-firm (get a n k) f c g = λ bs. clean-firm (k bs) f (c bs) g
+clean-firm (put a bs p) f c g = firm-then p f c g
+
 pub clean-every : {A : Type 0} (is : List ℕ) (f : ℕ → Prog (Result Unit)) (p : Prog (Result A)) → ((i : ℕ) → Quiet (f i)) → Clean p → Clean (every is f p)
 unfolding every
 clean-every [] f p g c = c
 clean-every (i ∷ is) f p g c = clean-then (f i) _ (g i) (λ _. clean-every is f p g c)
 
 -- ---- every path ends in a value of which P holds
+
+pub gives-done : {A : Type 0} (P : A → Type 0) (x : A) → P x → Gives P (done x)
+unfolding Gives
+gives-done P x h = h
+
+pub gives-get : {A : Type 0} (P : A → Type 0) (a n : ℕ) (k : List ℕ → Prog A) → ((bs : List ℕ) → Gives P (k bs)) → Gives P (get a n k)
+unfolding Gives
+gives-get P a n k h = h
+
+pub gives-put : {A : Type 0} (P : A → Type 0) (a : ℕ) (bs : List ℕ) (p : Prog A) → Gives P p → Gives P (put a bs p)
+unfolding Gives
+gives-put P a bs p h = h
 
 pub gives-value : {A : Type 0} (P : A → Type 0) (p : Prog A) (m : Mem) (s : ℕ) → Gives P p → P (run p m s .value)
 unfolding Gives run

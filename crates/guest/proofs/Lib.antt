@@ -8,4 +8,5 @@ pub mod RunLaws
 pub mod LoopLaws
 pub mod ReadLaws
 pub mod FormLaws
+pub mod EveryLaws
 pub mod TraceLaws

@@ -28,6 +28,10 @@ pub all-in : {P : ℕ → Type 0} {is : List ℕ} → All P is → (i : ℕ) →
 all-in {P} (more p a) i here = p
 all-in {P} (more p a) i (there n) = all-in a i n
 
+pub all-of : {P : ℕ → Type 0} (is : List ℕ) → ((i : ℕ) → In i is → P i) → All P is
+all-of [] f = none
+all-of (i ∷ is) f = more (f i here) (all-of is (λ j n. f j (there n)))
+
 -- ---- counted lists
 
 pub count-length : (n i : ℕ) → length (count n i) ≡ n

@@ -185,6 +185,14 @@ bind-reads (get b n k) f m a (inl w) = inl w
 bind-reads (get b n k) f m a (inr r) = inr (bind-reads (k (block m b n)) f m a r)
 bind-reads (put b bs p) f m a r = (r .0, bind-reads p f (splice m b bs) a (r .1))
 
+-- what the first of two programs stores to, both do
+bind-writes : {A B : Type 0} (p : Prog A) (f : A → Prog B) (m : Mem) (a : ℕ) → Writes p m a → Writes (bind p f) m a
+unfolding stores bind Touched
+bind-writes (done x) f m a w = absurd w
+bind-writes (get b n k) f m a w = bind-writes (k (block m b n)) f m a w
+bind-writes (put b bs p) f m a (inl w) = inl w
+bind-writes (put b bs p) f m a (inr w) = inr (bind-writes p f (splice m b bs) a w)
+
 -- where p, run over m, does not store to a, it reads a
 abbrev pub Seen : {A : Type 0} → Prog A → Mem → ℕ → Type 0
 Seen p m a = (Writes p m a → ⊥) → Reads p m a
@@ -208,6 +216,10 @@ seen-choose-no b p q m a e h = rw (choose-no b p q e) h
 
 pub seen-need : {A : Type 0} (len b n : ℕ) (p : Prog (Result A)) (m : Mem) (a : ℕ) → b + n ≤ len → Seen p m a → Seen (need len b n p) m a
 seen-need len b n p m a h r = rw (need-yes len b n p h) r
+
+-- in the first of two programs
+pub seen-first : {A B : Type 0} (p : Prog A) (f : A → Prog B) (m : Mem) (a : ℕ) → Seen p m a → Seen (bind p f) m a
+seen-first p f m a h = λ n. bind-reads p f m a (h (λ w. n (bind-writes p f m a w)))
 
 -- past the first of two programs
 pub seen-bind : {A B : Type 0} (p : Prog A) (f : A → Prog B) (m : Mem) (s a : ℕ) → Seen (f (run p m s .value)) (run p m s .memory) a → Seen (bind p f) m a

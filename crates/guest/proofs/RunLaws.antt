@@ -1,14 +1,20 @@
 -- Laws of a run, so that no definition of the language is opened above this crate.
 -- Assumes nothing.
 use mathlib.Core.Path.{_≡_, refl, sym, ap, _∙_}
+use mathlib.Core.Logic.{_⊎_, inl, inr, ⊎-elim}
 use mathlib.Core.Bool.{Bool, true, false}
 use mathlib.Core.List.{List}
 use Prim.Native.Nat.{ℕ, _+_, _≤_, _<_}
 use native.Mathlib.Nat.{add-zero, zero-add, add-assoc}
+use native.Mathlib.Omega.{arith}
 use borrow.Author.Tests.{leb-true, leb-false, le-leb, lt-leb}
 use lib.ListN.{length}
 use Rattle.guest.specs.Bytes.{inside}
 use Rattle.guest.specs.Prog.{Mem, Prog, done, get, put, block, splice, Ran, ran, run, Ends, choose, bind, Result, ok, refuse, need, passed, andThen}
+
+-- a refusal is no value
+pub refuse-ok : {A : Type 0} (c : ℕ) (x : A) → refuse c ≡ ok x → ⊥
+refuse-ok c x e = let z : _≡_ {A = ℕ} 0 1 = cc in omega arith
 
 module _ {A : Type 0} where
   pub run-done : (x : A) (m : Mem) (s : ℕ) → run (done x) m s ≡ ran x m s
@@ -92,6 +98,41 @@ pub refuses : {A B : Type 0} {p : Prog (Result A)} (f : A → Prog (Result B)) {
     → Ends p m s (refuse c) m′ s′ → Ends (andThen p f) m s (refuse c) m′ s′
 unfolding andThen passed run
 refuses f e = record { ends = after (passed f) e }
+
+-- ---- what a value tells of the way to it
+
+pub value-choose : {A : Type 0} (b : Bool) (p q : Prog A) (m : Mem) (s : ℕ) {x : A} → run (choose b p q) m s .value ≡ x
+    → ((b ≡ true) × (run p m s .value ≡ x)) ⊎ ((b ≡ false) × (run q m s .value ≡ x))
+unfolding choose
+value-choose true p q m s e = inl (refl, e)
+value-choose false p q m s e = inr (refl, e)
+
+-- a refusal gives none
+pub value-refuse : {A : Type 0} (c : ℕ) (m : Mem) (s : ℕ) {x : A} → run (done (refuse c)) m s .value ≡ ok x → ⊥
+unfolding run
+value-refuse c m s {x} e = refuse-ok c x e
+
+pub value-need : {A : Type 0} (len a n : ℕ) (p : Prog (Result A)) (m : Mem) (s : ℕ) {x : A} → run (need len a n p) m s .value ≡ ok x
+    → (a + n ≤ len) × (run p m s .value ≡ ok x)
+unfolding need
+value-need len a n p m s e =
+    ⊎-elim (λ i. (inside-yes len a n (i .0), i .1)) (λ o. absurd (value-refuse 193 m s (o .1))) (value-choose (inside len a n) p _ m s e)
+
+pub value-get : {A : Type 0} (a n : ℕ) (k : List ℕ → Prog A) (m : Mem) (s : ℕ) {x : A} → run (get a n k) m s .value ≡ x → run (k (block m a n)) m s .value ≡ x
+unfolding run
+value-get a n k m s e = e
+
+-- a value of the whole: the first part gave one, and the second goes on from there
+pub then-value : {A B : Type 0} (p : Prog (Result A)) (f : A → Prog (Result B)) (m : Mem) (s : ℕ) {y : B} → run (andThen p f) m s .value ≡ ok y
+    → (x : A) × (run p m s .value ≡ ok x) × (run (f x) (run p m s .memory) (run p m s .stored) .value ≡ ok y)
+unfolding andThen passed run
+then-value {A} {B} p f m s {y} e =
+    by (run p m s .value) refl (ap (λ (r : Ran (Result B)). r .value) (sym (run-bind p (passed f) m s)) ∙ e)
+  where
+    by : (r : Result A) → run p m s .value ≡ r → run (passed f r) (run p m s .memory) (run p m s .stored) .value ≡ ok y
+        → (x : A) × (run p m s .value ≡ ok x) × (run (f x) (run p m s .memory) (run p m s .stored) .value ≡ ok y)
+    by (ok x) d q = (x, d, q)
+    by (refuse c) d q = absurd (refuse-ok c y q)
 
 -- a value, at once
 pub ends-done : {A : Type 0} (x : A) (m : Mem) (s : ℕ) → Ends (done x) m s x m s

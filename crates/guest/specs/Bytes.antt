@@ -18,7 +18,7 @@ bytes zero x = []
 bytes (suc n) x = x % 256 ∷ bytes n (x / 256)
 
 -- an address and an offset: the sum wraps at 64 bits
-infixl 60 _⊕_
+infixl 65 _⊕_
 abbrev pub _⊕_ : ℕ → ℕ → ℕ
 a ⊕ b = (a + b) % 2 ^ 64
 
