@@ -1,3 +1,4 @@
 pub mod TableLaws
 pub mod Cases
 pub mod FormedFacts
+pub mod FormedTables
