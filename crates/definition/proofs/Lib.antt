@@ -2,3 +2,4 @@ pub mod TableLaws
 pub mod Cases
 pub mod FormedFacts
 pub mod FormedTables
+pub mod FormedWalks
