@@ -3,3 +3,4 @@ pub mod Cases
 pub mod FormedFacts
 pub mod FormedTables
 pub mod FormedWalks
+pub mod FormedSteps
