@@ -4,3 +4,4 @@ pub mod FormedFacts
 pub mod FormedTables
 pub mod FormedWalks
 pub mod FormedSteps
+pub mod FormedHeads
