@@ -18,11 +18,11 @@ use Rattle.definition.specs.Steps.{launchAt, terminateAt}
 use Rattle.definition.specs.Walks.{Walk, terminate, terminateAll, launch, copyLaunch}
 use Rattle.definition.specs.Commands.{add}
 use Rattle.definition.proofs.TableLaws.{Sized, IsSlot, IsEndpoint, endpoint-here, endpoint-other}
-use Rattle.definition.proofs.FormedFacts.{zero-ok, ok-zero, enabled-ok, Serve, InUse}
-use Rattle.definition.proofs.FormedTables.{Beside, beside-endpoint}
+use Rattle.definition.proofs.FormedFacts.{Proper, zero-ok, ok-zero, enabled-ok, Serve, InUse}
+use Rattle.definition.proofs.FormedTables.{Beside, beside-same, beside-endpoint}
 
 -- each record of a slot has F
-abbrev Each : ℕ → (ℕ → Endpoint → Type 0) → Table → Type 0
+abbrev pub Each : ℕ → (ℕ → Endpoint → Type 0) → Table → Type 0
 Each id F u = (i : ℕ) → IsEndpoint i → F i (endpointOf u id i)
 
 -- u is a table on the way of a command that began with t, on slot id with this base; F is what the command needs besides
@@ -43,8 +43,9 @@ each-stored F G u id i e z s n g rest a j m = by (ℕ-discrete j i)
 -- one endpoint of the walk: what F says of the others, G says of them
 module _ (t : Table) (id base : ℕ) (s : IsSlot id) (F G : ℕ → Endpoint → Type 0) (i : ℕ) (n : IsEndpoint i)
     (rest : (j : ℕ) (f : Endpoint) → (j ≡ i → ⊥) → F j f → G j f) where
-  stored : {u : Table} → Kept t id base F u → (e : Endpoint) → endpointOk (t .length) base i e ≡ true → G i e → Kept t id base G (withEndpoint u id i e)
-  stored {u} k e h g =
+  -- a record stored that serves
+  pub kept-stored : {u : Table} → Kept t id base F u → (e : Endpoint) → endpointOk (t .length) base i e ≡ true → G i e → Kept t id base G (withEndpoint u id i e)
+  kept-stored {u} k e h g =
       record {
         beside = beside-endpoint (k .beside) s i n e;
         serve = each-stored (λ j f. endpointOk (t .length) base j f ≡ true) (λ j f. endpointOk (t .length) base j f ≡ true) u id i e (k .beside .sized) s n h (λ j f q o. o) (k .serve);
@@ -59,13 +60,13 @@ module _ (t : Table) (id base : ℕ) (s : IsSlot id) (F G : ℕ → Endpoint →
       let e = endpointOf (w .table) id i in
       gives-bind (λ f. isZero f ≡ true) _ (terminateAt e (base ⊕ 32 * i)) _
       (gives-choose _ (isDisabled e) (done e) (put (base ⊕ 32 * i) _ (done disabled)) (λ d. ok-zero _ base i e (k .serve i n) d) (λ d. refl))
-      (λ f z. stored k f (zero-ok _ base i f z) (g f z))
+      (λ f z. kept-stored k f (zero-ok _ base i f z) (g f z))
 
   -- after a launch it is enabled
   pub launch-kept : (base ⊕ 32 * i) + 32 ≤ t .length → ((e : Endpoint) → isDisabled e ≡ false → G i e) → (c : ℕ) (w : Walk) → Kept t id base F (w .table)
       → Gives (λ v. Kept t id base G (v .table)) (copyLaunch id base c i w)
   unfolding copyLaunch launch launchAt bind Gives
-  launch-kept h g c w k = λ context port word. stored k _ (enabled-ok _ base i _ refl h (omega arith)) (g _ refl)
+  launch-kept h g c w k = λ context port word. kept-stored k _ (enabled-ok _ base i _ refl h (omega arith)) (g _ refl)
 
 -- ---- lists of endpoints
 
@@ -114,3 +115,18 @@ module _ (t : Table) (id base : ℕ) (s : IsSlot id) where
   clears w k =
       gives-counted (λ j v. Kept t id base (Cleared j) (v .table)) 31 1 (terminate id base) w k
       (λ i l h. terminate-kept t id base s (Cleared i) (Cleared (i + 1)) i (l, omega arith) (λ j f q o r. o (omega arith)) (λ e z r. z))
+
+-- ---- how a walk begins, and what its end asks for
+
+pub began : {t : Table} → Proper t → (id base : ℕ) (F : ℕ → Endpoint → Type 0) → Serve (t .length) base id t → Each id F t → Kept t id base F t
+began p id base F s m = record { beside = beside-same id p; serve = s; more = m }
+
+-- a slot in use begins with endpoint 1 enabled
+pub began-used : {t : Table} → Proper t → (id base : ℕ) → InUse (t .length) base id t → Kept t id base First t
+began-used p id base u = began p id base First (u .serve) (λ i n e. rw e (u .first))
+
+-- where the first 64 bytes lie in memory, a slot in use ends as one
+pub kept-used : {t u : Table} {id base : ℕ} → base + 64 ≤ t .length → Kept t id base First u → InUse (u .length) base id u
+kept-used {t} {u} {id} {base} h k =
+    subst (λ (len : ℕ). InUse len base id u) (sym (k .beside .length))
+    (record { first = k .more 1 (omega arith, omega arith) refl; room = h; serve = k .serve })

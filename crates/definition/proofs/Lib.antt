@@ -5,3 +5,4 @@ pub mod FormedTables
 pub mod FormedWalks
 pub mod FormedSteps
 pub mod FormedHeads
+pub mod FormedCommands
