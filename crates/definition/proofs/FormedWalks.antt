@@ -10,7 +10,7 @@ use native.Mathlib.Decide.{ℕ-discrete}
 use Rattle.guest.specs.Bytes.{_⊕_, count}
 use Rattle.guest.specs.Prog.{Prog, done, put, bind, each}
 use Rattle.guest.specs.Forms.{Gives}
-use Rattle.guest.proofs.ListLaws.{All}
+use Rattle.guest.proofs.ListLaws.{All, none, more}
 use Rattle.guest.proofs.FormLaws.{gives-choose, gives-bind, gives-each}
 use Rattle.definition.specs.Types.{Endpoint, Table}
 use Rattle.definition.specs.Table.{isDisabled, disabled, endpointOf, withEndpoint, isZero, endpointOk}
@@ -92,6 +92,10 @@ gives-counted {A} P (suc n) i f x p g =
     rw q (gives-bind (P (i + 1)) (P ((i + 1) + n)) (f i x) (each (count n (i + 1)) f) (g i (omega arith) (omega arith) x p)
     (λ y h. gives-counted P n (i + 1) f y h (λ j a b z k. g j (omega arith) (omega arith) z k)))
 
+all-both : {P Q : ℕ → Type 0} {is : List ℕ} → All P is → All Q is → All (λ i. P i × Q i) is
+all-both none none = none
+all-both (more p a) (more q b) = more (p, q) (all-both a b)
+
 module _ (t : Table) (id base : ℕ) (s : IsSlot id) where
   -- terminates past endpoint 1 leave it enabled
   pub terminates-kept : (is : List ℕ) → All Second is → (w : Walk) → Kept t id base First (w .table)
@@ -102,11 +106,11 @@ module _ (t : Table) (id base : ℕ) (s : IsSlot id) where
       (λ i n v h. terminate-kept t id base s First First i (omega arith, n .1) (λ j f q o. o) (λ e z q. absurd (omega arith)) v h)
 
   -- so do adds, each of a context that lies in memory
-  pub adds-kept : (P : ℕ) (is : List ℕ) → All (λ i. Second i × ((base ⊕ 32 * i) + 32 ≤ t .length)) is → (w : Walk) → Kept t id base First (w .table)
+  pub adds-kept : (P : ℕ) (is : List ℕ) → All Second is → All (λ i. (base ⊕ 32 * i) + 32 ≤ t .length) is → (w : Walk) → Kept t id base First (w .table)
       → Gives (λ v. Kept t id base First (v .table)) (each is (add id P base) w)
   unfolding add
-  adds-kept P is a w k =
-      gives-each (λ i. Second i × ((base ⊕ 32 * i) + 32 ≤ t .length)) (λ v. Kept t id base First (v .table)) is (add id P base) w a k
+  adds-kept P is a b w k =
+      gives-each (λ i. Second i × ((base ⊕ 32 * i) + 32 ≤ t .length)) (λ v. Kept t id base First (v .table)) is (add id P base) w (all-both a b) k
       (λ i n v h. launch-kept t id base s First First i (omega arith, n .0 .1) (λ j f q o. o) (n .1) (λ e d q. d) _ v h)
 
   -- terminates of all leave them all zero

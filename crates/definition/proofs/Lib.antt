@@ -5,4 +5,5 @@ pub mod FormedTables
 pub mod FormedWalks
 pub mod FormedSteps
 pub mod FormedHeads
-pub mod FormedCommands
+pub mod FormedSlots
+pub mod FormedDevices

@@ -1,4 +1,4 @@
--- Every command on a proper table gives a proper table, and no 198.
+-- Address Device, Configure Endpoint, Evaluate Context and Reset Device on a proper table give a proper table, and no 198.
 -- Assumes nothing.
 use mathlib.Core.Path.{_≡_, refl, sym, _∙_, subst}
 use mathlib.Core.Bool.{Bool, true, false}
@@ -23,37 +23,6 @@ use Rattle.definition.proofs.FormedTables.{Beside, beside-same, closes,
 use Rattle.definition.proofs.FormedWalks.{Kept, kept-stored, began, began-used, kept-used, terminate-kept, launch-kept, First, Cleared, Second, terminates-kept, adds-kept, clears}
 use Rattle.definition.proofs.FormedSteps.{Lively, step-lively}
 use Rattle.definition.proofs.FormedHeads.{Fine, formed-fine, lent-fine, slot-fine, endpoint-fine, settled-fine, Shows, shows-ok, shows-refuse, Plain, context-plain}
-
--- ---- registers, and Enable Slot
-
-pub set-limit-fine : (n : ℕ) (t : Table) → Proper t → Gives Fine (setLimit n t)
-unfolding setLimit Gives
-set-limit-fine n t p =
-    formed-fine t _ p (gives-choose Fine (leb n 16) _ _ (λ e. (λ q. omega arith, registers-proper p n (t .dcbaap) (leb-true _ _ e))) (λ e q. omega arith))
-
-pub set-dcbaap-fine : (a : ℕ) (t : Table) → Proper t → Gives Fine (setDcbaap a t)
-unfolding setDcbaap Gives
-set-dcbaap-fine a t p = formed-fine t _ p (λ q. omega arith, registers-proper p (t .limit) a (proper-limit p))
-
--- a slot whose state is Free has no endpoint
-free-zeroes : (st : SlotState) (s : Slot) (t : Table) (id : ℕ) → eqb (slotNumber st) 0 ≡ true → Fits st s t id → Zeroes id t
-free-zeroes Free s t id e f = f .2
-free-zeroes Enabled s t id e f = f .1
-free-zeroes Default s t id e f = let z : _≡_ {A = ℕ} 0 1 = cc in absurd (omega arith)
-free-zeroes Addressed s t id e f = let z : _≡_ {A = ℕ} 0 1 = cc in absurd (omega arith)
-free-zeroes Configured s t id e f = let z : _≡_ {A = ℕ} 0 1 = cc in absurd (omega arith)
-
-enable-one-fine : (t : Table) → Proper t → (is : List ℕ) → All (λ id. IsSlot id × (isFree (slotOf t id) ≡ true)) is → Gives Fine (enableOne t is)
-unfolding Gives
-enable-one-fine t p [] a = λ q. omega arith
-enable-one-fine t p (id ∷ is) (more h a) =
-    (λ q. omega arith, closes-slot p (h .0) (beside-same id p) _ (refl, free-zeroes (slotOf t id .state) (slotOf t id) t id (h .1) (slot-fits p id (h .0))))
-
-pub enable-fine : (t : Table) → Proper t → Gives Fine (enableSlot t)
-unfolding enableSlot
-enable-fine t p =
-    formed-fine t _ p
-    (enable-one-fine t p _ (those-all IsSlot (λ id. isFree (slotOf t id)) (count (t .limit) 1) (count-all IsSlot (t .limit) 1 (λ id l h. (l, omega (arith, proper-limit p))))))
 
 -- ---- Address Device
 
@@ -113,3 +82,66 @@ unfolding addressDevice
 address-fine accepts id P bsr len t p =
     slot-fine 11 t len id _ (λ q. omega arith) p (λ h e.
     checked-fine accepts len P _ (λ adds. carry-out-fine len P t id (slotOf t id) (slotOf t id .state) bsr p h e (slot-fits p id h)))
+
+-- ---- Configure Endpoint, Reset Device
+
+finish-fine : (t : Table) (id : ℕ) (s : Slot) (next : SlotState) (w : Walk) → Proper t → IsSlot id → s .base + 64 ≤ t .length → Later next
+    → Kept t id (s .base) First (w .table) → Gives Fine (finish id s next w)
+unfolding finish Gives
+finish-fine t id s next w p h r l k = (λ q. omega arith, closes-slot p h (k .beside) _ (l _ (w .table) id (kept-used r k)))
+
+deconfigure-fine : (t : Table) (id : ℕ) (s : Slot) (next : SlotState) → Proper t → IsSlot id → Later next → InUse (t .length) (s .base) id t
+    → Gives Fine (deconfigure id s next t)
+unfolding deconfigure
+deconfigure-fine t id s next p h l u =
+    gives-bind (λ w. Kept t id (s .base) First (w .table)) Fine _ (finish id s next)
+    (terminates-kept t id (s .base) h (count 30 2) (count-all Second 30 2 (λ i a b. (a, omega arith))) (begin t) (began-used p id (s .base) u))
+    (λ w k. finish-fine t id s next w p h (u .room) l k)
+
+-- the flags of 2 to 31 name endpoints past the first
+flags-second : (x : ℕ) → All Second (setBits 30 2 x)
+flags-second x = all-map (λ i h. h .0) (those-all Second (bit x) (count 30 2) (count-all Second 30 2 (λ i a b. (a, omega arith))))
+
+reconfigure-fine : (accepts : ℕ → Bool) (id P : ℕ) (s : Slot) (len : ℕ) (t : Table) → Proper t → IsSlot id → t .length ≡ len → InUse (t .length) (s .base) id t
+    → Gives Fine (reconfigure accepts id P s len t)
+unfolding reconfigure needContexts Gives
+reconfigure-fine accepts id P s len t p h e u =
+    checked-fine accepts len P _ (λ adds.
+    gives-need Fine len P 4 _ (λ q. omega arith) (λ _ drops.
+    gives-every Inside Fine (setBits 30 2 adds) (needContexts len P (s .base)) _ needed (λ a.
+    gives-bind Way Fine (terminateAll id (s .base) (setBits 30 2 (number drops)) (begin t)) _
+    (terminates-kept t id (s .base) h (setBits 30 2 (number drops)) (flags-second (number drops)) (begin t) (began-used p id (s .base) u)) (λ w k.
+    gives-bind Way Fine (each (setBits 30 2 adds) (add id P (s .base)) w) _
+    (adds-kept t id (s .base) h P (setBits 30 2 adds) (flags-second adds) a w k)
+    (λ v g. finish-fine t id s Configured v p h (u .room) (λ s u id g. g) g)))))
+  where
+    Way : Walk → Type 0
+    Way w = Kept t id (s .base) First (w .table)
+    Inside : ℕ → Type 0
+    Inside i = (s .base ⊕ 32 * i) + 32 ≤ t .length
+    needed : (i : ℕ) → Gives (Shows (Inside i)) (needContexts len P (s .base) i)
+    needed i =
+        gives-need (Shows (Inside i)) len (P ⊕ 32 * (i + 1)) 32 _ (shows-refuse _ 193 (λ q. omega arith)) (λ _.
+        gives-need (Shows (Inside i)) len (s .base ⊕ 32 * i) 32 _ (shows-refuse _ 193 (λ q. omega arith)) (λ r. shows-ok (omega arith)))
+
+pub configure-fine : (accepts : ℕ → Bool) (id P : ℕ) (dc : Bool) (len : ℕ) (t : Table) → Proper t → Gives Fine (configureEndpoint accepts id P dc len t)
+unfolding configureEndpoint
+configure-fine accepts id P true len t p =
+    slot-fine 11 t len id _ (λ q. omega arith) p (λ h e.
+    settled-fine (slotOf t id .state) (slotOf t id) t id _ (slot-fits p id h) (λ u. deconfigure-fine t id (slotOf t id) Addressed p h (λ s u id g. g) u))
+configure-fine accepts id P false len t p =
+    slot-fine 11 t len id _ (λ q. omega arith) p (λ h e.
+    settled-fine (slotOf t id .state) (slotOf t id) t id _ (slot-fits p id h) (λ u. reconfigure-fine accepts id P (slotOf t id) len t p h e u))
+
+pub reset-device-fine : (id len : ℕ) (t : Table) → Proper t → Gives Fine (resetDevice id len t)
+unfolding resetDevice
+reset-device-fine id len t p =
+    slot-fine 11 t len id _ (λ q. omega arith) p (λ h e.
+    settled-fine (slotOf t id .state) (slotOf t id) t id _ (slot-fits p id h) (λ u. deconfigure-fine t id (slotOf t id) Default p h (λ s u id g. g) u))
+
+-- ---- Evaluate Context
+
+pub evaluate-fine : (accepts : ℕ → Bool) (id P len : ℕ) (t : Table) → Proper t → Gives Fine (evaluateContext accepts id P len t)
+unfolding evaluateContext Gives
+evaluate-fine accepts id P len t p =
+    slot-fine 11 t len id _ (λ q. omega arith) p (λ h e. checked-fine accepts len P _ (λ adds. (λ q. omega arith, p)))
