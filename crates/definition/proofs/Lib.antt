@@ -7,3 +7,4 @@ pub mod FormedSteps
 pub mod FormedHeads
 pub mod FormedSlots
 pub mod FormedDevices
+pub mod FormedCalls
