@@ -8,7 +8,7 @@ use native.Mathlib.Omega.{arith}
 use borrow.Author.Tests.{leb-true}
 use lib.Dec.{leb}
 use lib.ListN.{length, length-replicate, getD-replicate}
-use Rattle.guest.specs.Prog.{Mem, done, run, Result, ok, refuse}
+use Rattle.guest.specs.Prog.{Mem, run, Result, ok, refuse}
 use Rattle.guest.specs.Forms.{Gives}
 use Rattle.guest.specs.Trace.{Event, call, store, step, course, left}
 use Rattle.guest.proofs.FormLaws.{gives-value, gives-bind}

@@ -1,28 +1,23 @@
 -- Address Device, Configure Endpoint, Evaluate Context and Reset Device on a proper table give a proper table, and no 198.
 -- Assumes nothing.
-use mathlib.Core.Path.{_≡_, refl, sym, _∙_, subst}
+use mathlib.Core.Path.{_≡_}
 use mathlib.Core.Bool.{Bool, true, false}
-use mathlib.Core.List.{List, [], _∷_}
 use Prim.Native.Nat.{ℕ, _+_, _*_, _≤_}
 use native.Mathlib.Omega.{arith}
-use borrow.Author.Tests.{leb-true}
-use lib.Dec.{leb, eqb}
-use Rattle.guest.specs.Bytes.{_⊕_, number, bit, count, those, setBits}
-use Rattle.guest.specs.Prog.{Prog, Result, ok, refuse, done, each, andThen}
+use Rattle.guest.specs.Bytes.{_⊕_, number, bit, count, setBits}
+use Rattle.guest.specs.Prog.{Prog, Result, each, andThen}
 use Rattle.guest.specs.Forms.{Gives}
-use Rattle.guest.proofs.ListLaws.{All, none, more, all-map, count-all, those-all}
-use Rattle.guest.proofs.FormLaws.{gives-choose, gives-need, gives-bind, gives-then, gives-each, gives-every}
-use Rattle.definition.specs.Types.{Endpoint, Input, SlotState, Free, Enabled, Default, Addressed, Configured, Slot, Table}
-use Rattle.definition.specs.Table.{slotNumber, isDisabled, isFree, free, endpointOf, slotOf, withEndpoint, withSlot, isZero}
-use Rattle.definition.specs.Steps.{column, step}
+use Rattle.guest.proofs.ListLaws.{All, all-map, count-all, those-all}
+use Rattle.guest.proofs.FormLaws.{gives-need, gives-bind, gives-then, gives-every}
+use Rattle.definition.specs.Types.{Endpoint, SlotState, Free, Enabled, Default, Addressed, Configured, Slot, Table}
+use Rattle.definition.specs.Table.{slotOf}
 use Rattle.definition.specs.Walks.{Walk, begin, terminate, terminateAll, copyLaunch}
-use Rattle.definition.specs.Commands.{Told, answer, setLimit, setDcbaap, enableOne, enableSlot, contextCheck, copyContexts, Plan, plan, carryOut, addressDevice, finish, deconfigure, needContexts, add, reconfigure, configureEndpoint, evaluateContext, resetDevice, freeing, disableSlot, resetAll, endpointCall}
-use Rattle.definition.proofs.TableLaws.{IsSlot, IsEndpoint, slot-endpoint}
-use Rattle.definition.proofs.FormedFacts.{Proper, proper-limit, proper-length, zero-ok, zero-disabled, ok-enabled, enabled-ok, Zeroes, Serve, InUse, Fits, slot-fits, fits-serve}
-use Rattle.definition.proofs.FormedTables.{Beside, beside-same, closes, closes-slot, registers-proper}
-use Rattle.definition.proofs.FormedWalks.{Kept, kept-stored, began, began-used, kept-used, terminate-kept, launch-kept, First, Cleared, Second, terminates-kept, adds-kept, clears}
-use Rattle.definition.proofs.FormedSteps.{Lively, step-lively}
-use Rattle.definition.proofs.FormedHeads.{Fine, formed-fine, lent-fine, slot-fine, endpoint-fine, settled-fine, Shows, shows-ok, shows-refuse, Plain, context-plain}
+use Rattle.definition.specs.Commands.{Told, contextCheck, copyContexts, Plan, plan, carryOut, addressDevice, finish, deconfigure, needContexts, add, reconfigure, configureEndpoint, evaluateContext, resetDevice}
+use Rattle.definition.proofs.TableLaws.{IsSlot}
+use Rattle.definition.proofs.FormedFacts.{Proper, proper-length, zero-ok, Zeroes, InUse, Fits, slot-fits}
+use Rattle.definition.proofs.FormedTables.{closes-slot}
+use Rattle.definition.proofs.FormedWalks.{Kept, began, began-used, kept-used, terminate-kept, launch-kept, First, Second, terminates-kept, adds-kept}
+use Rattle.definition.proofs.FormedHeads.{Fine, slot-fine, settled-fine, Shows, shows-ok, shows-refuse, Plain, context-plain}
 
 -- ---- Address Device
 
@@ -55,6 +50,7 @@ carry-out-fine len P t id s st bsr p h e f = by st bsr f
         gives-need Fine len (number base) 64 _ (λ q. omega arith) (λ r.
         copy-fine t id (P ⊕ 32) (number base) next (s .entry) (begin t) p h (omega arith) l
         (began p id (number base) Any (λ i n. zero-ok _ (number base) i _ (z i n)) (λ i n. tt)))))
+
     -- from Default: endpoint 1 is terminated
     again : InUse (t .length) (s .base) id t → Gives Fine (carryOut len P t id s (Plan.again Addressed))
     again u =
@@ -64,6 +60,7 @@ carry-out-fine len P t id s st bsr p h e f = by st bsr f
         (terminate-kept t id (s .base) h Any Any 1 (omega arith, omega arith) (λ j f q o. tt) (λ d z. tt) (begin t)
         (began p id (s .base) Any (u .serve) (λ i n. tt)))
         (λ w k. copy-fine t id (P ⊕ 32) (s .base) Addressed (s .entry) w p h (u .room) (λ s u id g. g) k)))
+
     by : (st : SlotState) (bsr : Bool) → Fits st s t id → Gives Fine (carryOut len P t id s (plan st bsr))
     by Free bsr f = λ q. omega arith
     by Enabled true f = fresh Default (f .1) (λ s u id g. g)
@@ -117,8 +114,10 @@ reconfigure-fine accepts id P s len t p h e u =
   where
     Way : Walk → Type 0
     Way w = Kept t id (s .base) First (w .table)
+
     Inside : ℕ → Type 0
     Inside i = (s .base ⊕ 32 * i) + 32 ≤ t .length
+
     needed : (i : ℕ) → Gives (Shows (Inside i)) (needContexts len P (s .base) i)
     needed i =
         gives-need (Shows (Inside i)) len (P ⊕ 32 * (i + 1)) 32 _ (shows-refuse _ 193 (λ q. omega arith)) (λ _.

@@ -1,18 +1,21 @@
 -- A well formed table as facts: of its numbers, and of each slot; and the table from those facts again.
 -- Assumes nothing.
-use mathlib.Core.Path.{_≡_, refl, sym, ap, ap₂, _∙_, subst}
-use mathlib.Core.Bool.{Bool, true, false, not, cond, _&&_}
-use Prim.Native.Nat.{ℕ, zero, suc, _+_, _*_, _%_, _≤_, _<_}
+use mathlib.Core.Path.{_≡_, ap}
+use mathlib.Core.Bool.{Bool, true, false, not, _&&_}
+use Prim.Native.Nat.{ℕ, _+_, _*_, _%_, _≤_}
 use native.Mathlib.Omega.{arith}
 use borrow.Author.Tests.{leb-true, le-leb, eq-eqb, eqb-true, not-true}
 use lib.Dec.{leb, eqb}
-use Rattle.guest.specs.Bytes.{_⊕_, inside, count}
-use Rattle.guest.specs.Prog.{all}
+use Rattle.guest.specs.Bytes.{_⊕_, inside}
 use Rattle.guest.proofs.RunLaws.{inside-yes, is-inside}
 use Rattle.guest.proofs.ListLaws.{and-left, and-right, both-true, all-at, at-all}
 use Rattle.definition.specs.Types.{Endpoint, SlotState, Free, Enabled, Default, Addressed, Configured, Slot, Table}
 use Rattle.definition.specs.Table.{isDisabled, endpointOf, slotOf, isZero, endpointOk, usedOk, noEndpoint, slotOkIn, slotOk, wellFormed}
 use Rattle.definition.proofs.TableLaws.{Sized, IsSlot, IsEndpoint}
+
+-- a test passes or fails
+pub clash : (b : Bool) → b ≡ true → b ≡ false → ⊥
+clash b p q = let z : _≡_ {A = ℕ} 0 1 = cc in omega arith
 
 -- ---- the table
 
@@ -74,7 +77,6 @@ Zeroes id t = (i : ℕ) → IsEndpoint i → isZero (endpointOf t id i) ≡ true
 -- each serves for this length and base
 abbrev pub Serve : ℕ → ℕ → ℕ → Table → Type 0
 Serve len base id t = (i : ℕ) → IsEndpoint i → endpointOk len base i (endpointOf t id i) ≡ true
-
 
 -- what a slot past Enabled has, for this length
 pub record InUse (len base id : ℕ) (t : Table) : Type 0 where

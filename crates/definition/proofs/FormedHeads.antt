@@ -2,8 +2,7 @@
 -- Assumes nothing.
 use mathlib.Core.Path.{_≡_, refl, sym, _∙_}
 use mathlib.Core.Bool.{Bool, true, false, not, cond, _&&_}
-use mathlib.Core.List.{List}
-use Prim.Native.Nat.{ℕ, _+_, _*_, _≤_}
+use Prim.Native.Nat.{ℕ, _+_, _*_}
 use native.Mathlib.Omega.{arith}
 use borrow.Author.Tests.{leb-true, eqb-true, not-true}
 use lib.Dec.{leb, eqb}
@@ -16,7 +15,7 @@ use Rattle.definition.specs.Types.{Endpoint, SlotState, Free, Enabled, D
 use Rattle.definition.specs.Table.{isDisabled, isFree, endpointOf, slotOf, lookup, wellFormed}
 use Rattle.definition.specs.Commands.{Told, formed, lent, found, onSlot, onEndpoint, checkType, contextCheck, settled}
 use Rattle.definition.proofs.TableLaws.{IsSlot, IsEndpoint}
-use Rattle.definition.proofs.FormedFacts.{Proper, InUse, Fits}
+use Rattle.definition.proofs.FormedFacts.{clash, Proper, InUse, Fits}
 
 -- a call's code is not 198, and its table is proper
 abbrev pub Fine : Result Told → Type 0
@@ -28,7 +27,7 @@ Fine (refuse c) = c ≡ 198 → ⊥
 pub formed-fine : (t : Table) (p : Prog (Result Told)) → Proper t → Gives Fine p → Gives Fine (formed t p)
 unfolding formed
 formed-fine t p h g =
-    gives-choose Fine (wellFormed t) p _ (λ e. g) (λ e. let z : true ≡ false = sym (h .formed) ∙ e in let o : _≡_ {A = ℕ} 0 1 = cc in absurd (omega arith))
+    gives-choose Fine (wellFormed t) p _ (λ e. g) (λ e. absurd (clash (wellFormed t) (h .formed) e))
 
 pub lent-fine : (t : Table) (len : ℕ) (p : Prog (Result Told)) → (t .length ≡ len → Gives Fine p) → Gives Fine (lent t len p)
 unfolding lent Gives
@@ -42,6 +41,7 @@ slot-fine absent t len id f n p g = formed-fine t _ p (lent-fine t len _ (λ e. 
   where
     test : Bool
     test = leb 1 id && leb id 16 && not (isFree (slotOf t id))
+
     by : t .length ≡ len → (b : Bool) → test ≡ b → Gives Fine (found (cond b (Used (slotOf t id)) Nothing) (done (refuse absent)) f)
     by e true h =
         let both = and-left (leb 1 id && leb id 16) _ h in

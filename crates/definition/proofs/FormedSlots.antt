@@ -1,28 +1,27 @@
 -- The register calls, Enable Slot, Disable Slot, reset of all slots and the calls that reach one endpoint, on a proper table, give a proper table, and no 198.
 -- Assumes nothing.
-use mathlib.Core.Path.{_≡_, refl, sym, _∙_, subst}
-use mathlib.Core.Bool.{Bool, true, false}
+use mathlib.Core.Path.{_≡_, refl, sym, subst}
+use mathlib.Core.Bool.{true, false}
 use mathlib.Core.List.{List, [], _∷_}
 use Prim.Native.Nat.{ℕ, _+_, _*_, _%_, _≤_}
 use native.Mathlib.Omega.{arith}
 use borrow.Author.Tests.{leb-true}
 use lib.Dec.{leb, eqb}
-use Rattle.guest.specs.Bytes.{_⊕_, number, bit, count, those, setBits}
-use Rattle.guest.specs.Prog.{Prog, Result, ok, refuse, done, each, andThen}
+use Rattle.guest.specs.Bytes.{_⊕_, count}
 use Rattle.guest.specs.Forms.{Gives}
-use Rattle.guest.proofs.ListLaws.{All, none, more, all-map, count-all, those-all}
-use Rattle.guest.proofs.FormLaws.{gives-choose, gives-need, gives-bind, gives-then, gives-each, gives-every}
+use Rattle.guest.proofs.ListLaws.{All, more, count-all, those-all}
+use Rattle.guest.proofs.FormLaws.{gives-choose, gives-bind, gives-then, gives-each}
 use Rattle.definition.specs.Types.{Endpoint, Input, SlotState, Free, Enabled, Default, Addressed, Configured, Slot, Table}
-use Rattle.definition.specs.Table.{slotNumber, isDisabled, isFree, free, endpointOf, slotOf, withEndpoint, withSlot, isZero}
+use Rattle.definition.specs.Table.{slotNumber, isDisabled, isFree, free, endpointOf, slotOf, withEndpoint}
 use Rattle.definition.specs.Steps.{column, step}
-use Rattle.definition.specs.Walks.{Walk, begin, terminate, terminateAll, copyLaunch}
-use Rattle.definition.specs.Commands.{Told, answer, setLimit, setDcbaap, enableOne, enableSlot, contextCheck, copyContexts, Plan, plan, carryOut, addressDevice, finish, deconfigure, needContexts, add, reconfigure, configureEndpoint, evaluateContext, resetDevice, freeing, disableSlot, resetAll, endpointCall}
+use Rattle.definition.specs.Walks.{begin, terminateAll}
+use Rattle.definition.specs.Commands.{setLimit, setDcbaap, enableOne, enableSlot, freeing, disableSlot, resetAll, endpointCall}
 use Rattle.definition.proofs.TableLaws.{IsSlot, IsEndpoint, slot-endpoint}
-use Rattle.definition.proofs.FormedFacts.{Proper, proper-limit, proper-length, zero-ok, zero-disabled, ok-enabled, enabled-ok, Zeroes, Serve, InUse, Fits, slot-fits, fits-serve}
-use Rattle.definition.proofs.FormedTables.{Beside, beside-same, beside-endpoint, closes, closes-slot, registers-proper}
-use Rattle.definition.proofs.FormedWalks.{Kept, kept-stored, began, began-used, kept-used, terminate-kept, launch-kept, First, Cleared, Second, terminates-kept, adds-kept, clears}
+use Rattle.definition.proofs.FormedFacts.{clash, Proper, proper-limit, zero-disabled, ok-enabled, enabled-ok, Zeroes, InUse, Fits, slot-fits, fits-serve}
+use Rattle.definition.proofs.FormedTables.{beside-same, beside-endpoint, closes, closes-slot, registers-proper}
+use Rattle.definition.proofs.FormedWalks.{Kept, kept-stored, began, began-used, kept-used, First, Cleared, clears}
 use Rattle.definition.proofs.FormedSteps.{Live, Lively, step-lively}
-use Rattle.definition.proofs.FormedHeads.{Fine, formed-fine, lent-fine, slot-fine, endpoint-fine, settled-fine, Shows, shows-ok, shows-refuse, Plain, context-plain}
+use Rattle.definition.proofs.FormedHeads.{Fine, formed-fine, lent-fine, slot-fine, endpoint-fine}
 
 -- ---- registers, and Enable Slot
 
@@ -39,9 +38,9 @@ set-dcbaap-fine a t p = formed-fine t _ p (λ q. omega arith, registers-proper p
 free-zeroes : (st : SlotState) (s : Slot) (t : Table) (id : ℕ) → eqb (slotNumber st) 0 ≡ true → Fits st s t id → Zeroes id t
 free-zeroes Free s t id e f = f .2
 free-zeroes Enabled s t id e f = f .1
-free-zeroes Default s t id e f = let z : _≡_ {A = ℕ} 0 1 = cc in absurd (omega arith)
-free-zeroes Addressed s t id e f = let z : _≡_ {A = ℕ} 0 1 = cc in absurd (omega arith)
-free-zeroes Configured s t id e f = let z : _≡_ {A = ℕ} 0 1 = cc in absurd (omega arith)
+free-zeroes Default s t id e f = absurd (clash false e refl)
+free-zeroes Addressed s t id e f = absurd (clash false e refl)
+free-zeroes Configured s t id e f = absurd (clash false e refl)
 
 enable-one-fine : (t : Table) → Proper t → (is : List ℕ) → All (λ id. IsSlot id × (isFree (slotOf t id) ≡ true)) is → Gives Fine (enableOne t is)
 unfolding Gives
@@ -87,8 +86,8 @@ reset-all-fine len t p =
 -- a slot with an enabled endpoint is in use, and fits still where it stays so
 still-fits : (st : SlotState) (s : Slot) (t u : Table) (id i : ℕ) → IsEndpoint i → isDisabled (endpointOf t id i) ≡ false
     → (InUse (t .length) (s .base) id t → InUse (u .length) (s .base) id u) → Fits st s t id → Fits st s u id
-still-fits Free s t u id i n d g f = let z = zero-disabled (endpointOf t id i) (f .2 i n) in let o : _≡_ {A = ℕ} 0 1 = cc in absurd (omega arith)
-still-fits Enabled s t u id i n d g f = let z = zero-disabled (endpointOf t id i) (f .1 i n) in let o : _≡_ {A = ℕ} 0 1 = cc in absurd (omega arith)
+still-fits Free s t u id i n d g f = absurd (clash _ (zero-disabled (endpointOf t id i) (f .2 i n)) d)
+still-fits Enabled s t u id i n d g f = absurd (clash _ (zero-disabled (endpointOf t id i) (f .1 i n)) d)
 still-fits Default s t u id i n d g f = g f
 still-fits Addressed s t u id i n d g f = g f
 still-fits Configured s t u id i n d g f = g f

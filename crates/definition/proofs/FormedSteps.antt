@@ -9,7 +9,7 @@ use lib.Dec.{eqb, ltb}
 use lib.ListN.{getD}
 use mathlib.Core.List.{List, []}
 use Rattle.guest.specs.Bytes.{count}
-use Rattle.guest.specs.Prog.{Prog, done, put, Result, ok, refuse, all}
+use Rattle.guest.specs.Prog.{Prog, put, Result, ok, refuse, all}
 use Rattle.guest.specs.Forms.{Gives}
 use Rattle.guest.proofs.ListLaws.{and-left, and-right, all-at}
 use Rattle.guest.proofs.FormLaws.{gives-choose}

@@ -1,14 +1,13 @@
 -- Proper tables from proper tables: registers changed, or one slot and its records.
 -- Assumes nothing.
 use mathlib.Core.Path.{_≡_, refl, sym, _∙_, subst}
-use mathlib.Core.Bool.{true, false}
-use Prim.Native.Nat.{ℕ, _+_, _≤_}
+use Prim.Native.Nat.{ℕ, _≤_}
 use native.Mathlib.Omega.{arith}
 use native.Mathlib.Decide.{ℕ-discrete}
 use Rattle.definition.specs.Types.{Endpoint, SlotState, Free, Enabled, Default, Addressed, Configured, Slot, Table}
-use Rattle.definition.specs.Table.{isDisabled, endpointOf, slotOf, withEndpoint, withSlot, withRegisters, endpointOk}
-use Rattle.definition.proofs.TableLaws.{Sized, IsSlot, IsEndpoint, sized-endpoint, sized-slot, sized-registers, endpoint-here, endpoint-other, endpoint-elsewhere, endpoint-slot, endpoint-registers, slot-here, slot-other, slot-endpoint, slot-registers}
-use Rattle.definition.proofs.FormedFacts.{Proper, proper-limit, proper-length, Zeroes, Serve, InUse, Fits, slot-fits, is-proper}
+use Rattle.definition.specs.Table.{endpointOf, slotOf, withEndpoint, withSlot, withRegisters}
+use Rattle.definition.proofs.TableLaws.{Sized, IsSlot, IsEndpoint, sized-endpoint, sized-slot, sized-registers, endpoint-elsewhere, endpoint-slot, endpoint-registers, slot-here, slot-other, slot-endpoint, slot-registers}
+use Rattle.definition.proofs.FormedFacts.{Proper, proper-limit, proper-length, Zeroes, InUse, Fits, slot-fits, is-proper}
 
 -- ---- what a slot's facts depend on
 
