@@ -1,4 +1,4 @@
--- The law of the table's form: it is made proper, every call keeps it so, and so no sequence of calls and guest stores ever meets 198.
+-- The law of the table's form: it is made proper, every call and every sequence keeps it so, and no call on a proper table answers 198.
 -- Assumes nothing.
 use mathlib.Core.Path.{_≡_, refl, sym, subst}
 use mathlib.Core.Bool.{Bool, true, false, cond}
@@ -50,9 +50,11 @@ made-proper len = by (leb len 1073741824) refl
 
 -- ---- every call
 
+-- a command or a doorbell that reaches one endpoint
 command-fine : (id i : ℕ) (input : Input) (len : ℕ) (t : Table) → (column input ≡ 4 → ⊥) → Proper t → Gives Fine (endpointCall 11 12 id i input len t)
 command-fine id i input len t h p = endpoint-call-fine 11 12 id i input len t (λ q. omega arith) (λ q. omega arith) h p
 
+-- a host event
 event-fine : (id i : ℕ) (input : Input) (len : ℕ) (t : Table) → (column input ≡ 4 → ⊥) → Proper t → Gives Fine (endpointCall 196 196 id i input len t)
 event-fine id i input len t h p = endpoint-call-fine 196 196 id i input len t (λ q. omega arith) (λ q. omega arith) h p
 
@@ -96,6 +98,7 @@ never-malformed c t m p = gives-value (λ r. Fine (ok r)) (prog c (length m) t) 
 
 -- ---- sequences
 
+-- one call or guest store
 event-proper : (e : Event Call) (t : Table) (m : Mem) → Proper t → Proper (step (left prog counted) e t m .table)
 unfolding step left
 event-proper (call c) t m p = keeps c t m p

@@ -1,4 +1,4 @@
--- Address Device, Configure Endpoint, Evaluate Context and Reset Device on a proper table give a proper table, and no 198.
+-- Address Device, Configure Endpoint, Evaluate Context and Reset Device give a proper table of a proper table, and no 198.
 -- Assumes nothing.
 use mathlib.Core.Path.{_≡_}
 use mathlib.Core.Bool.{Bool, true, false}
@@ -17,7 +17,7 @@ use Rattle.definition.proofs.TableLaws.{IsSlot}
 use Rattle.definition.proofs.FormedFacts.{Proper, proper-length, zero-ok, Zeroes, InUse, Fits, slot-fits}
 use Rattle.definition.proofs.FormedTables.{closes-slot}
 use Rattle.definition.proofs.FormedWalks.{Kept, began, began-used, kept-used, terminate-kept, launch-kept, First, Second, terminates-kept, adds-kept}
-use Rattle.definition.proofs.FormedHeads.{Fine, slot-fine, settled-fine, Shows, shows-ok, shows-refuse, Plain, context-plain}
+use Rattle.definition.proofs.FormedHeads.{Fine, slot-fine, settled-slot-fine, Shows, shows-ok, shows-refuse, Plain, context-plain}
 
 -- ---- Address Device
 
@@ -29,6 +29,7 @@ Later st = (s : Slot) (u : Table) (id : ℕ) → InUse (u .length) (s .base) id 
 abbrev Any : ℕ → Endpoint → Type 0
 Any j e = Unit
 
+-- the copies and the launch of endpoint 1 leave a slot in use
 copy-fine : (t : Table) (id c base : ℕ) (next : SlotState) (dcbaaEntry : ℕ) (w : Walk) → Proper t → IsSlot id → base + 64 ≤ t .length → Later next
     → Kept t id base Any (w .table) → Gives Fine (copyContexts id c base next dcbaaEntry w)
 unfolding copyContexts Gives
@@ -37,6 +38,7 @@ copy-fine t id c base next dcbaaEntry w p s h l k = λ context.
     (launch-kept t id base s Any First 1 (omega arith, omega arith) (λ j f q o r. absurd (q r)) (omega (arith, proper-length p)) (λ e d q. d) (c + 32) w k)
     (λ v g. (λ q. omega arith, closes-slot p s (g .beside) _ (l _ (v .table) id (kept-used h g))))
 
+-- each plan that the state allows
 carry-out-fine : (len P : ℕ) (t : Table) (id : ℕ) (s : Slot) (st : SlotState) (bsr : Bool) → Proper t → IsSlot id → t .length ≡ len → Fits st s t id
     → Gives Fine (carryOut len P t id s (plan st bsr))
 unfolding plan carryOut Gives
@@ -71,7 +73,8 @@ carry-out-fine len P t id s st bsr p h e f = by st bsr f
     by Configured bsr f = λ q. omega arith
 
 -- past the context check
-checked-fine : (accepts : ℕ → Bool) (len P : ℕ) (f : ℕ → Prog (Result Told)) → ((adds : ℕ) → Gives Fine (f adds)) → Gives Fine (andThen (contextCheck accepts len P) f)
+checked-fine : (accepts : ℕ → Bool) (len P : ℕ) (f : ℕ → Prog (Result Told)) → ((adds : ℕ) → Gives Fine (f adds))
+    → Gives Fine (andThen (contextCheck accepts len P) f)
 checked-fine accepts len P f g = gives-then Plain Fine (contextCheck accepts len P) f (context-plain accepts len P) (λ adds _. g adds) (λ c q. q)
 
 pub address-fine : (accepts : ℕ → Bool) (id P : ℕ) (bsr : Bool) (len : ℕ) (t : Table) → Proper t → Gives Fine (addressDevice accepts id P bsr len t)
@@ -82,11 +85,13 @@ address-fine accepts id P bsr len t p =
 
 -- ---- Configure Endpoint, Reset Device
 
+-- the slot goes to the next state
 finish-fine : (t : Table) (id : ℕ) (s : Slot) (next : SlotState) (w : Walk) → Proper t → IsSlot id → s .base + 64 ≤ t .length → Later next
     → Kept t id (s .base) First (w .table) → Gives Fine (finish id s next w)
 unfolding finish Gives
 finish-fine t id s next w p h r l k = (λ q. omega arith, closes-slot p h (k .beside) _ (l _ (w .table) id (kept-used r k)))
 
+-- every endpoint past the first is terminated
 deconfigure-fine : (t : Table) (id : ℕ) (s : Slot) (next : SlotState) → Proper t → IsSlot id → Later next → InUse (t .length) (s .base) id t
     → Gives Fine (deconfigure id s next t)
 unfolding deconfigure
@@ -99,8 +104,9 @@ deconfigure-fine t id s next p h l u =
 flags-second : (x : ℕ) → All Second (setBits 30 2 x)
 flags-second x = all-map (λ i h. h .0) (those-all Second (bit x) (count 30 2) (count-all Second 30 2 (λ i a b. (a, omega arith))))
 
-reconfigure-fine : (accepts : ℕ → Bool) (id P : ℕ) (s : Slot) (len : ℕ) (t : Table) → Proper t → IsSlot id → t .length ≡ len → InUse (t .length) (s .base) id t
-    → Gives Fine (reconfigure accepts id P s len t)
+-- drops, then adds of contexts that lie in memory
+reconfigure-fine : (accepts : ℕ → Bool) (id P : ℕ) (s : Slot) (len : ℕ) (t : Table) → Proper t → IsSlot id → t .length ≡ len
+    → InUse (t .length) (s .base) id t → Gives Fine (reconfigure accepts id P s len t)
 unfolding reconfigure needContexts Gives
 reconfigure-fine accepts id P s len t p h e u =
     checked-fine accepts len P _ (λ adds.
@@ -126,17 +132,14 @@ reconfigure-fine accepts id P s len t p h e u =
 pub configure-fine : (accepts : ℕ → Bool) (id P : ℕ) (dc : Bool) (len : ℕ) (t : Table) → Proper t → Gives Fine (configureEndpoint accepts id P dc len t)
 unfolding configureEndpoint
 configure-fine accepts id P true len t p =
-    slot-fine 11 t len id _ (λ q. omega arith) p (λ h e.
-    settled-fine (slotOf t id .state) (slotOf t id) t id _ (slot-fits p id h) (λ u. deconfigure-fine t id (slotOf t id) Addressed p h (λ s u id g. g) u))
+    settled-slot-fine t len id (λ s. deconfigure id s Addressed t) p (λ h e u. deconfigure-fine t id (slotOf t id) Addressed p h (λ s u id g. g) u)
 configure-fine accepts id P false len t p =
-    slot-fine 11 t len id _ (λ q. omega arith) p (λ h e.
-    settled-fine (slotOf t id .state) (slotOf t id) t id _ (slot-fits p id h) (λ u. reconfigure-fine accepts id P (slotOf t id) len t p h e u))
+    settled-slot-fine t len id (λ s. reconfigure accepts id P s len t) p (λ h e u. reconfigure-fine accepts id P (slotOf t id) len t p h e u)
 
 pub reset-device-fine : (id len : ℕ) (t : Table) → Proper t → Gives Fine (resetDevice id len t)
 unfolding resetDevice
 reset-device-fine id len t p =
-    slot-fine 11 t len id _ (λ q. omega arith) p (λ h e.
-    settled-fine (slotOf t id .state) (slotOf t id) t id _ (slot-fits p id h) (λ u. deconfigure-fine t id (slotOf t id) Default p h (λ s u id g. g) u))
+    settled-slot-fine t len id (λ s. deconfigure id s Default t) p (λ h e u. deconfigure-fine t id (slotOf t id) Default p h (λ s u id g. g) u)
 
 -- ---- Evaluate Context
 

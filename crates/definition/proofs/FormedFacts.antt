@@ -41,11 +41,12 @@ proper-slot {t} p id s = all-at (slotOk t) 16 1 (and-right (limits t) _ (p .form
 
 -- ---- a record
 
+-- one that is all zero is disabled
 pub zero-disabled : (e : Endpoint) → isZero e ≡ true → isDisabled e ≡ true
 unfolding isZero
 zero-disabled e z = and-left _ (not (e .cycle)) (and-left (isDisabled e && not (e .cycle)) _ z)
 
--- a record that is all zero serves for any base
+-- .. and serves for any base
 pub zero-ok : (len base i : ℕ) (e : Endpoint) → isZero e ≡ true → endpointOk len base i e ≡ true
 unfolding endpointOk
 zero-ok len base i e z = rw (zero-disabled e z) z
@@ -56,7 +57,8 @@ unfolding endpointOk
 ok-zero len base i e h d = rw d at h
 
 -- an enabled record with its context in memory and an aligned pointer serves
-pub enabled-ok : (len base i : ℕ) (e : Endpoint) → isDisabled e ≡ false → (base ⊕ 32 * i) + 32 ≤ len → e .pointer % 16 ≡ 0 → endpointOk len base i e ≡ true
+pub enabled-ok : (len base i : ℕ) (e : Endpoint) → isDisabled e ≡ false → (base ⊕ 32 * i) + 32 ≤ len → e .pointer % 16 ≡ 0
+    → endpointOk len base i e ≡ true
 unfolding endpointOk
 enabled-ok len base i e d h a = rw d (both-true _ _ (is-inside len (base ⊕ 32 * i) 32 h) (eq-eqb _ _ a))
 
@@ -84,6 +86,7 @@ pub record InUse (len base id : ℕ) (t : Table) : Type 0 where
   pub room : base + 64 ≤ len
   pub serve : Serve len base id t
 
+-- the test gives these facts
 used-parts : (t : Table) (id base : ℕ) → usedOk t id base ≡ true → InUse (t .length) base id t
 unfolding usedOk
 used-parts t id base h =
@@ -95,12 +98,14 @@ used-parts t id base h =
       serve = λ i n. all-at (λ i. endpointOk (t .length) base i (endpointOf t id i)) 31 1 (and-right e _ h) i (n .0) (omega arith);
     }
 
+-- .. and they give the test
 is-used : (t : Table) (id base : ℕ) → InUse (t .length) base id t → usedOk t id base ≡ true
 unfolding usedOk
 is-used t id base u =
     both-true _ _ (both-true _ _ (ap not (u .first)) (is-inside _ _ _ (u .room)))
     (at-all (λ i. endpointOk (t .length) base i (endpointOf t id i)) 31 1 (λ i l h. u .serve i (l, omega arith)))
 
+-- so for a slot with no endpoint
 no-parts : (t : Table) (id : ℕ) → noEndpoint t id ≡ true → Zeroes id t
 unfolding noEndpoint
 no-parts t id h i n = all-at (λ i. isZero (endpointOf t id i)) 31 1 h i (n .0) (omega arith)
@@ -119,6 +124,7 @@ Fits Default s t id = InUse (t .length) (s .base) id t
 Fits Addressed s t id = InUse (t .length) (s .base) id t
 Fits Configured s t id = InUse (t .length) (s .base) id t
 
+-- the test gives it
 fits-in : (st : SlotState) (s : Slot) (t : Table) (id : ℕ) → slotOkIn st s t id ≡ true → Fits st s t id
 fits-in Free s t id h =
     let n = eqb (s .base) 0 && eqb (s .entry) 0 in
@@ -128,6 +134,7 @@ fits-in Default s t id h = used-parts t id (s .base) h
 fits-in Addressed s t id h = used-parts t id (s .base) h
 fits-in Configured s t id h = used-parts t id (s .base) h
 
+-- .. and it gives the test
 is-fit : (st : SlotState) (s : Slot) (t : Table) (id : ℕ) → Fits st s t id → slotOkIn st s t id ≡ true
 is-fit Free s t id f = both-true _ _ (both-true _ _ (eq-eqb _ _ (f .0)) (eq-eqb _ _ (f .1))) (is-no t id (f .2))
 is-fit Enabled s t id f = both-true _ _ (eq-eqb _ _ (f .0)) (is-no t id (f .1))

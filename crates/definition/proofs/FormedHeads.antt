@@ -15,7 +15,7 @@ use Rattle.definition.specs.Types.{Endpoint, SlotState, Free, Enabled, D
 use Rattle.definition.specs.Table.{isDisabled, isFree, endpointOf, slotOf, lookup, wellFormed}
 use Rattle.definition.specs.Commands.{Told, formed, lent, found, onSlot, onEndpoint, checkType, contextCheck, settled}
 use Rattle.definition.proofs.TableLaws.{IsSlot, IsEndpoint}
-use Rattle.definition.proofs.FormedFacts.{clash, Proper, InUse, Fits}
+use Rattle.definition.proofs.FormedFacts.{clash, Proper, InUse, Fits, slot-fits}
 
 -- a call's code is not 198, and its table is proper
 abbrev pub Fine : Result Told → Type 0
@@ -24,16 +24,18 @@ Fine (refuse c) = c ≡ 198 → ⊥
 
 -- ---- the order of checks
 
+-- 198 does not stand before a proper table
 pub formed-fine : (t : Table) (p : Prog (Result Told)) → Proper t → Gives Fine p → Gives Fine (formed t p)
 unfolding formed
 formed-fine t p h g =
     gives-choose Fine (wellFormed t) p _ (λ e. g) (λ e. absurd (clash (wellFormed t) (h .formed) e))
 
+-- past 194 the memory is the table's
 pub lent-fine : (t : Table) (len : ℕ) (p : Prog (Result Told)) → (t .length ≡ len → Gives Fine p) → Gives Fine (lent t len p)
 unfolding lent Gives
 lent-fine t len p g = gives-choose Fine (eqb (t .length) len) p _ (λ e. g (eqb-true _ _ e)) (λ e q. omega arith)
 
--- the slot of a command is in use, and the memory is the table's
+-- the slot of a command has an id from 1 to 16, and the memory is the table's
 pub slot-fine : (absent : ℕ) (t : Table) (len id : ℕ) (f : Slot → Prog (Result Told)) → (absent ≡ 198 → ⊥) → Proper t
     → (IsSlot id → t .length ≡ len → Gives Fine (f (slotOf t id))) → Gives Fine (onSlot absent t len id f)
 unfolding onSlot lookup Gives
@@ -48,6 +50,7 @@ slot-fine absent t len id f n p g = formed-fine t _ p (lent-fine t len _ (λ e. 
         g (leb-true _ _ (and-left (leb 1 id) _ both), leb-true _ _ (and-right (leb 1 id) _ both)) e
     by e false h = n
 
+-- the endpoint of a command is enabled
 pub endpoint-fine : (absent : ℕ) (t : Table) (id i : ℕ) (f : Endpoint → Prog (Result Told)) → (absent ≡ 198 → ⊥)
     → (IsEndpoint i → isDisabled (endpointOf t id i) ≡ false → Gives Fine (f (endpointOf t id i))) → Gives Fine (onEndpoint absent t id i f)
 unfolding onEndpoint Gives
@@ -58,7 +61,7 @@ endpoint-fine absent t id i f n g =
     (λ h. n)
 
 -- a slot that is settled has what a slot in use has
-pub settled-fine : (st : SlotState) (s : Slot) (t : Table) (id : ℕ) (p : Prog (Result Told)) → Fits st s t id
+settled-fine : (st : SlotState) (s : Slot) (t : Table) (id : ℕ) (p : Prog (Result Told)) → Fits st s t id
     → (InUse (t .length) (s .base) id t → Gives Fine p) → Gives Fine (settled st p)
 unfolding settled Gives
 settled-fine Free s t id p f g = λ q. omega arith
@@ -66,6 +69,14 @@ settled-fine Enabled s t id p f g = λ q. omega arith
 settled-fine Default s t id p f g = λ q. omega arith
 settled-fine Addressed s t id p f g = g f
 settled-fine Configured s t id p f g = g f
+
+-- a command that asks for a settled slot has one
+pub settled-slot-fine : (t : Table) (len id : ℕ) (f : Slot → Prog (Result Told)) → Proper t
+    → (IsSlot id → t .length ≡ len → InUse (t .length) (slotOf t id .base) id t → Gives Fine (f (slotOf t id)))
+    → Gives Fine (onSlot 11 t len id (λ s. settled (s .state) (f s)))
+settled-slot-fine t len id f p g =
+    slot-fine 11 t len id _ (λ q. omega arith) p (λ h e.
+    settled-fine (slotOf t id .state) (slotOf t id) t id (f (slotOf t id)) (slot-fits p id h) (λ u. g h e u))
 
 -- ---- the checks of a list
 
@@ -84,6 +95,7 @@ abbrev pub Plain : Result ℕ → Type 0
 Plain (ok x) = Unit
 Plain (refuse c) = c ≡ 198 → ⊥
 
+-- the context check refuses with 17 or 193
 pub context-plain : (accepts : ℕ → Bool) (len P : ℕ) → Gives Plain (contextCheck accepts len P)
 unfolding contextCheck checkType Gives
 context-plain accepts len P =

@@ -1,4 +1,5 @@
--- The register calls, Enable Slot, Disable Slot, reset of all slots and the calls that reach one endpoint, on a proper table, give a proper table, and no 198.
+-- The register calls, Enable Slot, Disable Slot, reset of all slots and the calls that reach one endpoint give a proper table of a proper table,
+-- and no 198.
 -- Assumes nothing.
 use mathlib.Core.Path.{_≡_, refl, sym, subst}
 use mathlib.Core.Bool.{true, false}
@@ -42,6 +43,7 @@ free-zeroes Default s t id e f = absurd (clash false e refl)
 free-zeroes Addressed s t id e f = absurd (clash false e refl)
 free-zeroes Configured s t id e f = absurd (clash false e refl)
 
+-- the first free slot, if there is one, becomes Enabled
 enable-one-fine : (t : Table) → Proper t → (is : List ℕ) → All (λ id. IsSlot id × (isFree (slotOf t id) ≡ true)) is → Gives Fine (enableOne t is)
 unfolding Gives
 enable-one-fine t p [] a = λ q. omega arith
@@ -52,7 +54,9 @@ pub enable-fine : (t : Table) → Proper t → Gives Fine (enableSlot t)
 unfolding enableSlot
 enable-fine t p =
     formed-fine t _ p
-    (enable-one-fine t p _ (those-all IsSlot (λ id. isFree (slotOf t id)) (count (t .limit) 1) (count-all IsSlot (t .limit) 1 (λ id l h. (l, omega (arith, proper-limit p))))))
+    (enable-one-fine t p _
+    (those-all IsSlot (λ id. isFree (slotOf t id)) (count (t .limit) 1)
+    (count-all IsSlot (t .limit) 1 (λ id l h. (l, omega (arith, proper-limit p))))))
 
 -- ---- Disable Slot, and reset of all slots
 
@@ -93,6 +97,7 @@ still-fits Addressed s t u id i n d g f = g f
 still-fits Configured s t u id i n d g f = g f
 
 module _ (t : Table) (id i : ℕ) (p : Proper t) (h : IsSlot id) (n : IsEndpoint i) (d : isDisabled (endpointOf t id i) ≡ false) where
+  -- its context lies in memory, and its pointer is aligned
   here : ((slotOf t id .base ⊕ 32 * i) + 32 ≤ t .length) × (endpointOf t id i .pointer % 16 ≡ 0)
   here =
       ok-enabled (t .length) (slotOf t id .base) i (endpointOf t id i)
@@ -109,8 +114,9 @@ module _ (t : Table) (id i : ℕ) (p : Proper t) (h : IsSlot id) (n : IsEndpoint
       (enabled-ok (t .length) (slotOf t id .base) i e (l .enabled) (here .0) (l .aligned)) (λ q. l .enabled)))
       (slot-fits p id h)))
 
-pub endpoint-call-fine : (noSlot noEndpoint id i : ℕ) (input : Input) (len : ℕ) (t : Table) → (noSlot ≡ 198 → ⊥) → (noEndpoint ≡ 198 → ⊥) → (column input ≡ 4 → ⊥)
-    → Proper t → Gives Fine (endpointCall noSlot noEndpoint id i input len t)
+-- every input but Terminate, which is no call
+pub endpoint-call-fine : (noSlot noEndpoint id i : ℕ) (input : Input) (len : ℕ) (t : Table) → (noSlot ≡ 198 → ⊥) → (noEndpoint ≡ 198 → ⊥)
+    → (column input ≡ 4 → ⊥) → Proper t → Gives Fine (endpointCall noSlot noEndpoint id i input len t)
 unfolding endpointCall Gives
 endpoint-call-fine noSlot noEndpoint id i input len t a b c p =
     slot-fine noSlot t len id _ a p (λ h e.

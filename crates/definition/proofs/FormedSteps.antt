@@ -23,6 +23,7 @@ use Rattle.definition.specs.Steps.{wrong, steps, column, entry, reportOf
 abbrev sound : Row → Bool
 sound r = ltb (r .code) 198 && not (r .moves && eqb (endpointNumber (r .next)) 0)
 
+-- each state has a row
 row-low : (s : EndpointState) → endpointNumber s - 1 < 6
 row-low Disabled = omega arith
 row-low Waiting = omega arith
@@ -53,12 +54,14 @@ sound-entry s TrbError h = sound-column 8 refl s
 
 -- ---- the record after the step
 
+-- the next state is enabled
 next-enabled : (found moves : Bool) (next s : EndpointState) → not (moves && eqb (endpointNumber next) 0) ≡ true → eqb (endpointNumber s) 0 ≡ false
     → eqb (endpointNumber (cond found InFlight (cond moves next s))) 0 ≡ false
 next-enabled true moves next s h d = refl
 next-enabled false true next s h d = not-true _ h
 next-enabled false false next s h d = d
 
+-- a pointer that is taken was judged
 taken-aligned : (takes : Bool) (p q : ℕ) → (takes && not (eqb (p % 16) 0)) ≡ false → q % 16 ≡ 0 → cond takes p q % 16 ≡ 0
 taken-aligned true p q h a = eqb-true _ _ (not-false _ h)
 taken-aligned false p q h a = a
@@ -68,6 +71,7 @@ pub record Live (e : Endpoint) : Type 0 where
   pub enabled : isDisabled e ≡ false
   pub aligned : e .pointer % 16 ≡ 0
 
+-- so a step's record is live again
 moved-live : (r : Row) (e : Endpoint) (p : Report) → sound r ≡ true → misaligned r p ≡ false → Live e → Live (moved r e p)
 moved-live r e p h a l =
     record {
@@ -77,6 +81,7 @@ moved-live r e p h a l =
 
 -- ---- the step
 
+-- a store gives nothing
 gives-when : {A : Type 0} (P : A → Type 0) (b : Bool) (a : ℕ) (bs : List ℕ) (p : Prog A) → Gives P p → Gives P (putWhen b a bs p)
 unfolding Gives
 gives-when P b a bs p g = gives-choose P b (put a bs p) p (λ e. g) (λ e. g)
@@ -86,6 +91,7 @@ abbrev pub Lively : Result Stepped → Type 0
 Lively (ok r) = (r .code ≡ 198 → ⊥) × Live (r .endpoint)
 Lively (refuse c) = c ≡ 198 → ⊥
 
+-- the step of any sound entry
 step-by : (r : Row) (e : Endpoint) (p : Report) (at : ℕ) → sound r ≡ true → Live e → Gives Lively (stepBy r e p at)
 unfolding stepBy Gives
 step-by r e p at h l =

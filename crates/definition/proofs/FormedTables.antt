@@ -38,7 +38,7 @@ module _ (id : ℕ) (t u : Table) (a : Alike id t u) where
 
 -- ---- one slot changed
 
--- u is t but for slot id and its records, and the registers' values that a well formed table may have
+-- u is t but for slot id, its records and DCBAAP
 pub record Beside (id : ℕ) (t u : Table) : Type 0 where
   pub sized : Sized u
   pub limit : u .limit ≡ t .limit
@@ -46,9 +46,11 @@ pub record Beside (id : ℕ) (t u : Table) : Type 0 where
   pub slots : (other : ℕ) → IsSlot other → (other ≡ id → ⊥) → slotOf u other ≡ slotOf t other
   pub records : (other : ℕ) → IsSlot other → (other ≡ id → ⊥) → Alike other t u
 
+-- a table is itself but for any slot
 pub beside-same : (id : ℕ) {t : Table} → Proper t → Beside id t t
 beside-same id p = record { sized = p .sized; limit = refl; length = refl; slots = λ other s n. refl; records = λ other s n i e. refl }
 
+-- still so after a record of the slot is stored
 pub beside-endpoint : {id : ℕ} {t u : Table} → Beside id t u → IsSlot id → (i : ℕ) → IsEndpoint i → (e : Endpoint) → Beside id t (withEndpoint u id i e)
 unfolding withEndpoint
 beside-endpoint {id} {t} {u} b s i n e =
@@ -60,6 +62,7 @@ beside-endpoint {id} {t} {u} b s i n e =
       records = λ other o d j m. endpoint-elsewhere u id i other j e (s .0) (o .0) d n m ∙ b .records other o d j m;
     }
 
+-- .. and after the slot is stored
 beside-slot : {id : ℕ} {t u : Table} → Beside id t u → IsSlot id → (s : Slot) → Beside id t (withSlot u id s)
 unfolding withSlot
 beside-slot {id} {t} {u} b h s =

@@ -43,12 +43,16 @@ each-stored F G u id i e z s n g rest a j m = by (ℕ-discrete j i)
 -- one endpoint of the walk: what F says of the others, G says of them
 module _ (t : Table) (id base : ℕ) (s : IsSlot id) (F G : ℕ → Endpoint → Type 0) (i : ℕ) (n : IsEndpoint i)
     (rest : (j : ℕ) (f : Endpoint) → (j ≡ i → ⊥) → F j f → G j f) where
+  -- a record serves
+  abbrev Serves : ℕ → Endpoint → Type 0
+  Serves j f = endpointOk (t .length) base j f ≡ true
+
   -- a record stored that serves
-  pub kept-stored : {u : Table} → Kept t id base F u → (e : Endpoint) → endpointOk (t .length) base i e ≡ true → G i e → Kept t id base G (withEndpoint u id i e)
+  pub kept-stored : {u : Table} → Kept t id base F u → (e : Endpoint) → Serves i e → G i e → Kept t id base G (withEndpoint u id i e)
   kept-stored {u} k e h g =
       record {
         beside = beside-endpoint (k .beside) s i n e;
-        serve = each-stored (λ j f. endpointOk (t .length) base j f ≡ true) (λ j f. endpointOk (t .length) base j f ≡ true) u id i e (k .beside .sized) s n h (λ j f q o. o) (k .serve);
+        serve = each-stored Serves Serves u id i e (k .beside .sized) s n h (λ j f q o. o) (k .serve);
         more = each-stored F G u id i e (k .beside .sized) s n g rest (k .more);
       }
 
@@ -63,8 +67,8 @@ module _ (t : Table) (id base : ℕ) (s : IsSlot id) (F G : ℕ → Endpoint →
       (λ f z. kept-stored k f (zero-ok _ base i f z) (g f z))
 
   -- after a launch it is enabled
-  pub launch-kept : (base ⊕ 32 * i) + 32 ≤ t .length → ((e : Endpoint) → isDisabled e ≡ false → G i e) → (c : ℕ) (w : Walk) → Kept t id base F (w .table)
-      → Gives (λ v. Kept t id base G (v .table)) (copyLaunch id base c i w)
+  pub launch-kept : (base ⊕ 32 * i) + 32 ≤ t .length → ((e : Endpoint) → isDisabled e ≡ false → G i e) → (c : ℕ) (w : Walk)
+      → Kept t id base F (w .table) → Gives (λ v. Kept t id base G (v .table)) (copyLaunch id base c i w)
   unfolding copyLaunch launch launchAt bind Gives
   launch-kept h g c w k = λ context port word. kept-stored k _ (enabled-ok _ base i _ refl h (omega arith)) (g _ refl)
 
