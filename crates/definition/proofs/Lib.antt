@@ -9,3 +9,11 @@ pub mod CodeLaws
 pub mod EnableLaws
 pub mod DemandLaws
 pub mod Cases
+pub mod FormedFacts
+pub mod FormedTables
+pub mod FormedWalks
+pub mod FormedSteps
+pub mod FormedHeads
+pub mod FormedSlots
+pub mod FormedDevices
+pub mod FormedCalls
