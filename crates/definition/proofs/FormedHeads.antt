@@ -10,7 +10,8 @@ use Rattle.guest.specs.Bytes.{_⊕_, number, typeOf, setBits}
 use Rattle.guest.specs.Prog.{Prog, done, Result, ok, refuse}
 use Rattle.guest.specs.Forms.{Gives}
 use Rattle.guest.proofs.ListLaws.{and-left, and-right}
-use Rattle.guest.proofs.FormLaws.{refuse-ok, gives-choose, gives-need, gives-every}
+use Rattle.guest.proofs.RunLaws.{refuse-ok}
+use Rattle.guest.proofs.FormLaws.{gives-choose, gives-need, gives-every}
 use Rattle.definition.specs.Types.{Endpoint, SlotState, Free, Enabled, Default, Addressed, Configured, Slot, Table, Used, Nothing}
 use Rattle.definition.specs.Table.{isDisabled, isFree, endpointOf, slotOf, lookup, wellFormed}
 use Rattle.definition.specs.Commands.{Told, formed, lent, found, onSlot, onEndpoint, checkType, contextCheck, settled}

@@ -3,15 +3,14 @@
 use mathlib.Core.Path.{_≡_, refl, sym, subst}
 use mathlib.Core.Bool.{true, false}
 use mathlib.Core.List.{List}
-use Prim.Native.Nat.{ℕ, zero, suc, _+_, _*_, _≤_, _<_}
+use Prim.Native.Nat.{ℕ, _+_, _*_, _≤_, _<_}
 use native.Mathlib.Omega.{arith}
-use native.Mathlib.Nat.{add-zero}
 use native.Mathlib.Decide.{ℕ-discrete}
 use Rattle.guest.specs.Bytes.{_⊕_, count}
-use Rattle.guest.specs.Prog.{Prog, done, put, bind, each}
+use Rattle.guest.specs.Prog.{done, put, bind, each}
 use Rattle.guest.specs.Forms.{Gives}
-use Rattle.guest.proofs.ListLaws.{All, none, more}
-use Rattle.guest.proofs.FormLaws.{gives-choose, gives-bind, gives-each}
+use Rattle.guest.proofs.ListLaws.{All, all-both}
+use Rattle.guest.proofs.FormLaws.{gives-choose, gives-bind, gives-each, gives-counted}
 use Rattle.definition.specs.Types.{Endpoint, Table}
 use Rattle.definition.specs.Table.{isDisabled, disabled, endpointOf, withEndpoint, isZero, endpointOk}
 use Rattle.definition.specs.Steps.{launchAt, terminateAt}
@@ -85,20 +84,6 @@ Cleared n j e = j < n → isZero e ≡ true
 -- an endpoint past the first
 abbrev pub Second : ℕ → Type 0
 Second i = (2 ≤ i) × (i ≤ 31)
-
--- a counted walk, whose turn j leads from P j to P (j + 1)
-gives-counted : {A : Type 0} (P : ℕ → A → Type 0) (n i : ℕ) (f : ℕ → A → Prog A) (x : A) → P i x
-    → ((j : ℕ) → i ≤ j → j < i + n → (y : A) → P j y → Gives (P (j + 1)) (f j y)) → Gives (P (i + n)) (each (count n i) f x)
-unfolding count each Gives
-gives-counted P zero i f x p g = rw (add-zero i) p
-gives-counted {A} P (suc n) i f x p g =
-    let q : i + suc n ≡ (i + 1) + n = omega arith in
-    rw q (gives-bind (P (i + 1)) (P ((i + 1) + n)) (f i x) (each (count n (i + 1)) f) (g i (omega arith) (omega arith) x p)
-    (λ y h. gives-counted P n (i + 1) f y h (λ j a b z k. g j (omega arith) (omega arith) z k)))
-
-all-both : {P Q : ℕ → Type 0} {is : List ℕ} → All P is → All Q is → All (λ i. P i × Q i) is
-all-both none none = none
-all-both (more p a) (more q b) = more (p, q) (all-both a b)
 
 module _ (t : Table) (id base : ℕ) (s : IsSlot id) where
   -- terminates past endpoint 1 leave it enabled

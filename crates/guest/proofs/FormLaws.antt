@@ -3,9 +3,11 @@
 use mathlib.Core.Path.{_≡_, refl, sym}
 use mathlib.Core.Bool.{Bool, true, false}
 use mathlib.Core.List.{List, [], _∷_}
-use Prim.Native.Nat.{ℕ, _+_, _≤_}
+use Prim.Native.Nat.{ℕ, zero, suc, _+_, _≤_, _<_}
+use native.Mathlib.Nat.{add-zero}
+use native.Mathlib.Omega.{arith}
 use lib.ListN.{length}
-use Rattle.guest.specs.Bytes.{inside}
+use Rattle.guest.specs.Bytes.{inside, count}
 use Rattle.guest.specs.Prog.{Mem, Prog, done, get, put, block, splice, run, Reads, stores, choose, bind, each, Result, ok, refuse, need, passed, andThen, every}
 use Rattle.guest.specs.Forms.{Quiet, Blind, Firm, Clean, Gives}
 use Rattle.guest.proofs.ReadLaws.{no-store}
@@ -222,6 +224,16 @@ pub gives-each : {A : Type 0} (R : ℕ → Type 0) (P : A → Type 0) (is : List
 unfolding each Gives
 gives-each R P [] f x a h g = h
 gives-each R P (i ∷ is) f x (more r a) h g = gives-bind P P (f i x) (each is f) (g i r x h) (λ y q. gives-each R P is f y a q g)
+
+-- a counted walk, whose turn j leads from P j to P (j + 1)
+pub gives-counted : {A : Type 0} (P : ℕ → A → Type 0) (n i : ℕ) (f : ℕ → A → Prog A) (x : A) → P i x
+    → ((j : ℕ) → i ≤ j → j < i + n → (y : A) → P j y → Gives (P (j + 1)) (f j y)) → Gives (P (i + n)) (each (count n i) f x)
+unfolding count each Gives
+gives-counted P zero i f x p g = rw (add-zero i) p
+gives-counted {A} P (suc n) i f x p g =
+    let q : i + suc n ≡ (i + 1) + n = omega arith in
+    rw q (gives-bind (P (i + 1)) (P ((i + 1) + n)) (f i x) (each (count n (i + 1)) f) (g i (omega arith) (omega arith) x p)
+    (λ y h. gives-counted P n (i + 1) f y h (λ j a b z k. g j (omega arith) (omega arith) z k)))
 
 -- past a check at each of a list, what each check shows holds of them all
 pub gives-every : {A : Type 0} (R : ℕ → Type 0) (P : Result A → Type 0) (is : List ℕ) (f : ℕ → Prog (Result Unit)) (p : Prog (Result A))

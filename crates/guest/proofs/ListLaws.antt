@@ -19,6 +19,10 @@ pub all-map : {P Q : ℕ → Type 0} → ((i : ℕ) → P i → Q i) → {is : L
 all-map f none = none
 all-map f (more p a) = more (f _ p) (all-map f a)
 
+pub all-both : {P Q : ℕ → Type 0} {is : List ℕ} → All P is → All Q is → All (λ i. P i × Q i) is
+all-both none none = none
+all-both (more p a) (more q b) = more (p, q) (all-both a b)
+
 -- i is one of a list
 pub data In (i : ℕ) : List ℕ → Type 0 where
   here : {is : List ℕ} → In i (i ∷ is)
