@@ -70,7 +70,7 @@ const HALT: Row = Row {
     next: EndpointState::Halted,
     stores: true,
     byte: 2,
-    takes: true,
+    takes: true, // If given.
     looks: false,
     saves: true,
     cancels: false,
@@ -156,18 +156,12 @@ const STRAY: Row = Row {
 
 // Doorbell, Stop, Reset, Set Dequeue, Terminate, Ok, Stall, Transaction Error, TRB Error.
 const STEPS: [[Row; 9]; 6] = [
-    // Waiting
-    [LOOK, STOP, WRONG, WRONG, END, STRAY, STRAY, STRAY, STRAY],
-    // In flight
-    [IDLE, BREAK_OFF, WRONG, WRONG, END, LOOK, HALT, HALT, FAIL],
-    // Halted
-    [IDLE, WRONG, STOP, WRONG, END, STRAY, STRAY, STRAY, STRAY],
-    // Error
-    [IDLE, WRONG, WRONG, AIM, END, STRAY, STRAY, STRAY, STRAY],
-    // Stopped-continuable
-    [RESUME, WRONG, WRONG, AIM, END, STRAY, STRAY, STRAY, STRAY],
-    // Stopped
-    [RESUME, WRONG, WRONG, AIM, END, STRAY, STRAY, STRAY, STRAY],
+    [LOOK, STOP, WRONG, WRONG, END, STRAY, STRAY, STRAY, STRAY], // Waiting.
+    [IDLE, BREAK_OFF, WRONG, WRONG, END, LOOK, HALT, HALT, FAIL], // In flight.
+    [IDLE, WRONG, STOP, WRONG, END, STRAY, STRAY, STRAY, STRAY], // Halted.
+    [IDLE, WRONG, WRONG, AIM, END, STRAY, STRAY, STRAY, STRAY], // Error.
+    [RESUME, WRONG, WRONG, AIM, END, STRAY, STRAY, STRAY, STRAY], // Stopped-continuable.
+    [RESUME, WRONG, WRONG, AIM, END, STRAY, STRAY, STRAY, STRAY], // Stopped.
 ];
 
 // A state by its number: Disabled is 0, and the resting states follow in the table's order.
