@@ -5,6 +5,7 @@ use mathlib.Core.Bool.{Bool, true, false, _&&_}
 use mathlib.Core.List.{List, [], _∷_}
 use Prim.Native.Nat.{ℕ, zero, suc, _+_, _-_, _≤_, _<_}
 use native.Mathlib.Nat.{add-zero, zero-add, add-suc, suc-add, le-of-suc-le-suc, not-suc-le-zero}
+use native.Mathlib.Omega.{arith}
 use borrow.Author.Tests.{leb-true}
 use lib.Dec.{leb, lit<, lit≤}
 use lib.ListN.{getD}
@@ -15,6 +16,8 @@ use Rattle.definition.specs.declared.Input.the-variants.{Doorbell, Stop, Reset,
 use Rattle.definition.specs.declared.Row.{Row}
 use Rattle.definition.specs.Table.{endpointNumber}
 use Rattle.definition.specs.Steps.{steps, wrong, column}
+use Rattle.endpoint.specs.declared.table.Entry.{Entry}
+use Rattle.endpoint.specs.Entries.{stateFrom, entryFrom, rowAt}
 
 -- ---- a table that computes to the list of f 0, f 1, ..
 
@@ -37,10 +40,6 @@ module _ {A : Type 0} (f : ℕ → A) where
 pub at₂ : {A : Type 0} (f : ℕ → ℕ → A) (n m i k : ℕ) (d : List A) (e : A) → i < n → k < m → getD (getD (tabulate (λ s. tabulate (f s) m 0) n 0) i d) k e ≡ f i k
 at₂ f n m i k d e h l = rw (at (λ s. tabulate (f s) m 0) n i d h) (at (f i) m k e l)
 
--- the definition's entry in row s and column k
-abbrev pub entryAt : ℕ → ℕ → Row
-entryAt s k = getD (getD steps s []) k wrong
-
 -- ---- a test of every entry
 
 every : {A : Type 0} → (A → Bool) → List A → Bool
@@ -59,13 +58,31 @@ passes f (x ∷ l) zero d h e = both (f x) (every f l) h .0
 passes f (x ∷ l) (suc k) d h e = passes f l k d (both (f x) (every f l) h .1) e
 
 -- no answer is above 196
-pub code-small : (s k : ℕ) → entryAt s k .code ≤ 196
+pub code-small : (s k : ℕ) → rowAt s k .code ≤ 196
 unfolding every
 code-small s k =
     let small : Row → Bool = λ r. leb (r .code) 196 in
-    leb-true (entryAt s k .code) 196 (passes small (getD steps s []) k wrong (passes (every small) steps s [] refl refl) refl)
+    leb-true (rowAt s k .code) 196 (passes small (getD steps s []) k wrong (passes (every small) steps s [] refl refl) refl)
 
 -- ---- numbers of states and inputs
+
+-- the state of a state's number
+pub state-back : (s : EndpointState) → stateFrom (endpointNumber s) ≡ s
+state-back Disabled = refl
+state-back Waiting = refl
+state-back InFlight = refl
+state-back Halted = refl
+state-back Error = refl
+state-back StoppedContinuable = refl
+state-back Stopped = refl
+
+-- the row of a row's entry
+pub row-back : {e : Entry} {n : EndpointState} (r : Row) → e ≡ entryFrom r → n ≡ stateFrom (e .next)
+    → record { code = e .code; moves = e .moves; next = n; stores = e .stores; byte = e .byte; takes = e .takes; looks = e .looks; saves = e .saves; cancels = e .cancels } ≡ r
+row-back r d k = rw (k, d, state-back (r .next))
+
+pub six-up : (n : ℕ) → 6 ≤ n → Stopped ≡ stateFrom n
+six-up n h = let k : n ≡ suc (suc (suc (suc (suc (suc (n - 6)))))) = omega arith in rw k
 
 pub state-few : (s : EndpointState) → endpointNumber s ≤ 6
 state-few Disabled = lit≤ tt

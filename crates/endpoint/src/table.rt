@@ -1,21 +1,46 @@
-// The table of steps: six resting states by nine inputs.
+// The table of steps (xHCI 4.8.3): six resting states by nine inputs.
 use definition::EndpointState;
 use definition::Input;
 use definition::Row;
 ghost use mathlib.Core.Path.{_≡_};
 ghost use mathlib.Core.Bool.{false};
-ghost use mathlib.Core.List.{[]};
 ghost use Prim.Native.Nat.{_≤_, _<_};
 ghost use lib.Dec.{eqb};
-ghost use lib.ListN.{getD};
 ghost use Rattle.definition.specs.Table.{endpointNumber};
-ghost use Rattle.definition.specs.Steps.{steps, wrong, column, entry};
+ghost use Rattle.definition.specs.Steps.{column, entry};
+ghost use Rattle.endpoint.specs.Entries.{stateFrom, entryFrom, rowAt};
+
+// The states by number: Disabled is 0, and the resting states follow in the table's order.
+const DISABLED: u8 = 0;
+
+const WAITING: u8 = 1;
+
+const HALTED: u8 = 3;
+
+const ERROR: u8 = 4;
+
+const STOPPED_CONTINUABLE: u8 = 5;
+
+const STOPPED: u8 = 6;
+
+// An entry as the constant has it: definition's `Row`, with the next state by its number.
+struct Entry {
+    code: u8,
+    moves: bool,
+    next: u8,
+    stores: bool,
+    byte: u8,
+    takes: bool,
+    looks: bool,
+    saves: bool,
+    cancels: bool,
+}
 
 // The place is taken; a TRB found there gives In flight and submit, else Waiting.
-const LOOK: Row = Row {
+const LOOK: Entry = Entry {
     code: 0,
     moves: true,
-    next: EndpointState::Waiting,
+    next: WAITING,
     stores: false,
     byte: 0,
     takes: true,
@@ -25,10 +50,10 @@ const LOOK: Row = Row {
 };
 
 // Byte 1; look.
-const RESUME: Row = Row {
+const RESUME: Entry = Entry {
     code: 0,
     moves: true,
-    next: EndpointState::Waiting,
+    next: WAITING,
     stores: true,
     byte: 1,
     takes: true,
@@ -38,10 +63,10 @@ const RESUME: Row = Row {
 };
 
 // Byte 3, save; Stopped.
-const STOP: Row = Row {
+const STOP: Entry = Entry {
     code: 1,
     moves: true,
-    next: EndpointState::Stopped,
+    next: STOPPED,
     stores: true,
     byte: 3,
     takes: false,
@@ -51,10 +76,10 @@ const STOP: Row = Row {
 };
 
 // Byte 3, save, cancel; Stopped-continuable.
-const BREAK_OFF: Row = Row {
+const BREAK_OFF: Entry = Entry {
     code: 1,
     moves: true,
-    next: EndpointState::StoppedContinuable,
+    next: STOPPED_CONTINUABLE,
     stores: true,
     byte: 3,
     takes: false,
@@ -64,10 +89,10 @@ const BREAK_OFF: Row = Row {
 };
 
 // The place is taken if given; byte 2, save; Halted.
-const HALT: Row = Row {
+const HALT: Entry = Entry {
     code: 0,
     moves: true,
-    next: EndpointState::Halted,
+    next: HALTED,
     stores: true,
     byte: 2,
     takes: true, // If given.
@@ -77,10 +102,10 @@ const HALT: Row = Row {
 };
 
 // Byte 4, save; Error.
-const FAIL: Row = Row {
+const FAIL: Entry = Entry {
     code: 0,
     moves: true,
-    next: EndpointState::Error,
+    next: ERROR,
     stores: true,
     byte: 4,
     takes: false,
@@ -90,10 +115,10 @@ const FAIL: Row = Row {
 };
 
 // Byte 3, take, save; Stopped.
-const AIM: Row = Row {
+const AIM: Entry = Entry {
     code: 1,
     moves: true,
-    next: EndpointState::Stopped,
+    next: STOPPED,
     stores: true,
     byte: 3,
     takes: true,
@@ -103,10 +128,10 @@ const AIM: Row = Row {
 };
 
 // Byte 0; disabled, with a record that is all zero.
-const END: Row = Row {
+const END: Entry = Entry {
     code: 1,
     moves: true,
-    next: EndpointState::Disabled,
+    next: DISABLED,
     stores: true,
     byte: 0,
     takes: true,
@@ -116,10 +141,10 @@ const END: Row = Row {
 };
 
 // A doorbell with no effect.
-const IDLE: Row = Row {
+const IDLE: Entry = Entry {
     code: 0,
     moves: false,
-    next: EndpointState::Disabled,
+    next: DISABLED,
     stores: false,
     byte: 0,
     takes: false,
@@ -129,10 +154,10 @@ const IDLE: Row = Row {
 };
 
 // A command that the state does not take.
-const WRONG: Row = Row {
+const WRONG: Entry = Entry {
     code: 19,
     moves: false,
-    next: EndpointState::Disabled,
+    next: DISABLED,
     stores: false,
     byte: 0,
     takes: false,
@@ -142,10 +167,10 @@ const WRONG: Row = Row {
 };
 
 // A host event that the state does not take.
-const STRAY: Row = Row {
+const STRAY: Entry = Entry {
     code: 196,
     moves: false,
-    next: EndpointState::Disabled,
+    next: DISABLED,
     stores: false,
     byte: 0,
     takes: false,
@@ -155,7 +180,7 @@ const STRAY: Row = Row {
 };
 
 // Doorbell, Stop, Reset, Set Dequeue, Terminate, Ok, Stall, Transaction Error, TRB Error.
-const STEPS: [[Row; 9]; 6] = [
+const STEPS: [[Entry; 9]; 6] = [
     [LOOK, STOP, WRONG, WRONG, END, STRAY, STRAY, STRAY, STRAY], // Waiting.
     [IDLE, BREAK_OFF, WRONG, WRONG, END, LOOK, HALT, HALT, FAIL], // In flight.
     [IDLE, WRONG, STOP, WRONG, END, STRAY, STRAY, STRAY, STRAY], // Halted.
@@ -196,12 +221,46 @@ fn column_of(input: Input) -> usize
     }
 }
 
+// The state of a number.
+fn state_from(n: u8) -> EndpointState
+    ensures { λ r. ⌜ r ≡ stateFrom n ⌝ }
+{
+    match n {
+        0 => EndpointState::Disabled,
+        1 => EndpointState::Waiting,
+        2 => EndpointState::InFlight,
+        3 => EndpointState::Halted,
+        4 => EndpointState::Error,
+        5 => EndpointState::StoppedContinuable,
+        _ => EndpointState::Stopped,
+    }
+}
+
 // The entry in row s and column k.
-fn row_at(s: usize, k: usize) -> Row
+fn entry_at(s: usize, k: usize) -> Entry
     requires { ⌜ (s < 6) × (k < 9) ⌝ }
-    ensures { λ r. ⌜ r ≡ getD (getD steps s []) k wrong ⌝ }
+    ensures { λ r. ⌜ r ≡ entryFrom (rowAt s k) ⌝ }
 {
     STEPS[s][k]
+}
+
+// The row in row s and column k.
+fn row_at(s: usize, k: usize) -> Row
+    requires { ⌜ (s < 6) × (k < 9) ⌝ }
+    ensures { λ r. ⌜ r ≡ rowAt s k ⌝ }
+{
+    let e = entry_at(s, k);
+    Row {
+        code: e.code,
+        moves: e.moves,
+        next: state_from(e.next),
+        stores: e.stores,
+        byte: e.byte,
+        takes: e.takes,
+        looks: e.looks,
+        saves: e.saves,
+        cancels: e.cancels,
+    }
 }
 
 // The entry for an enabled endpoint's state and an input.
