@@ -23,7 +23,8 @@ use Rattle.definition.specs.declared.Row.{Row}
 use Rattle.definition.specs.Table.{endpointNumber, isDisabled, disabled}
 use Rattle.definition.specs.Steps.{entry, reportOf, submits, misaligned, moved, wordOf, Stepped, putWhen, stepBy, step, launchAt, terminateAt}
 use Rattle.endpoint.specs.declared.Taken.{Taken}
-use Rattle.endpoint.specs.Promises.{Ready, judged, Unmoved, Takes, Launches, Terminates, Puts, Stores}
+use Rattle.endpoint.specs.Promises.{Ready, judged, Unmoved, Takes, Launches, Terminates}
+use Rattle.endpoint.specs.Stores.{Puts, Stores}
 
 -- ---- what is stored where a test passes
 

@@ -54,14 +54,3 @@ pub record Terminates (e : Endpoint) (at : ℕ) (m : Mem) (r : Terminated) (m′
   pub ends : Ends (terminateAt e at) m 0 (r .endpoint) m′ (r .stored)
   pub count : r .stored ≡ cond (isDisabled e) 0 1
   pub few : r .stored ≤ 1
-
--- ---- inside this crate: what is stored where a test passes, and n, the count of it
-
-pub record Puts (b : Bool) (a : ℕ) (bs : List ℕ) (m m′ : Mem) (n : ℕ) : Type 0 where
-  pub ends : Ends {A = Unit {0}} (putWhen b a bs (done tt)) m 0 tt m′ n
-  pub few : n ≤ length bs
-
--- the state byte and the dequeue word, by an entry of the table
-pub record Stores (r : Row) (e : Endpoint) (at : ℕ) (m m′ : Mem) (n : ℕ) : Type 0 where
-  pub ends : Ends {A = Unit {0}} (putWhen (r .stores) at (r .byte ∷ []) (putWhen (r .saves) (at + 8) (bytes 8 (wordOf e)) (done tt))) m 0 tt m′ n
-  pub few : n ≤ 9

@@ -7,7 +7,8 @@ ghost use Prim.Native.Nat.{_+_, _%_, _≤_};
 ghost use lib.ListN.{length};
 ghost use Rattle.guest.specs.Bytes.{bytes};
 ghost use Rattle.definition.specs.Steps.{wordOf};
-ghost use Rattle.endpoint.specs.Promises.{Ready, Puts, Stores};
+ghost use Rattle.endpoint.specs.Stores.{Puts, Stores};
+ghost use Rattle.endpoint.specs.Promises.{Ready};
 
 // The dequeue word of a record: pointer plus cycle.
 fn word_of(e: Endpoint) -> u64
