@@ -134,7 +134,7 @@ reconfigure-coded accepts id P s len t =
     (λ adds. coded-need Carried _ _ _ _
     (gives-get _ _ _ _
     (λ drops. coded-every Carried _ _ _ (λ i. coded-need Any _ _ _ _ (coded-need Any _ _ _ _ (coded-ok Any _ tt)))
-    (coded-bind Carried _ _ (λ w. coded-bind Carried _ _ (finish-coded id s Configured))))))
+    (coded-bind Carried _ _ (finish-coded id s Configured)))))
 
 copies-coded : (id c base : ℕ) (next : SlotState) (e : ℕ) (w : Walk) → Gives (Coded Carried) (copyContexts id c base next e w)
 unfolding copyContexts

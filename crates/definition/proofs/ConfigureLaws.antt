@@ -7,7 +7,7 @@ use Prim.Native.Nat.{ℕ, _+_, _*_, _≤_, _<_}
 use native.Mathlib.Omega.{arith}
 use lib.ListN.{length}
 use Rattle.guest.specs.Bytes.{number, _⊕_, bit, count, setBits}
-use Rattle.guest.specs.Prog.{Mem, Prog, block, run, Within, Reads, each, Result, andThen}
+use Rattle.guest.specs.Prog.{Mem, Prog, block, run, Within, Reads, Result, andThen}
 use Rattle.guest.specs.Forms.{Quiet, Firm, Clean}
 use Rattle.guest.proofs.ListLaws.{All, all-in, all-of, In, count-all, count-in, those-all, those-in}
 use Rattle.guest.proofs.RunLaws.{need-yes, value-need}
@@ -16,7 +16,7 @@ use Rattle.guest.proofs.FormLaws.{blind-reads, quiet-need, quiet-stores, firm-b
 use Rattle.guest.proofs.EveryLaws.{Passes, reads-every, seen-every, reads-each, seen-each}
 use Rattle.definition.specs.Types.{SlotState, Free, Enabled, Default, Addressed, Configured, Slot, Table}
 use Rattle.definition.specs.Walks.{Walk, copyLaunch, launch}
-use Rattle.definition.specs.Commands.{settled, finish, deconfigure, needContexts, add, reconfigure}
+use Rattle.definition.specs.Commands.{settled, finish, deconfigure, needContexts, add, addAll, dropAndAdd, reconfigure}
 use Rattle.definition.specs.Rules.{CheckPasses, Settled, isAddressed, isConfigured, Joins, AllInside, ConfigureNamed, check, drops, context, port}
 use Rattle.definition.proofs.CheckLaws.{truly, true-of, check-quiet, check-reads, check-seen, check-passes, passes-check}
 use Rattle.definition.proofs.PieceLaws.{copy-reads, terminateAll-blind, finish-blind}
@@ -90,9 +90,9 @@ module _ (accepts : ℕ → Bool) (P : ℕ) (t : Table) (id : ℕ) (s : Slot) (m
   inside-all h = all-of (setBits 30 2 Flags) (λ i n. pass-ranges (length m) P (s .base) i m (h .1 i (listed-joins i n)))
 
   -- the adds read the contexts of added endpoints and base+6
-  adds-reads : AllInside m P (s .base) → (w : Walk) (k : Mem) → length k ≡ length m → Reads (each (setBits 30 2 Flags) (add id P (s .base)) w) k a
+  adds-reads : AllInside m P (s .base) → (w : Walk) (k : Mem) → length k ≡ length m → Reads (addAll id P (s .base) (setBits 30 2 Flags) w) k a
       → (i : ℕ) × Joins m P i × (Within (P ⊕ 32 * (i + 1)) 32 a ⊎ Within (s .base + 6) 1 a)
-  unfolding add
+  unfolding addAll add
   adds-reads h w k l r =
       let q = reads-each (add id P (s .base)) (setBits 30 2 Flags) w k a r in
       let j = listed-joins (q .0) (q .1) in
@@ -101,7 +101,7 @@ module _ (accepts : ℕ → Bool) (P : ℕ) (t : Table) (id : ℕ) (s : Slot) (m
 
   -- it reads no more than its rule names
   pub reconfigure-reads : Settled (s .state) → Reads (reconfigure accepts id P s (length m) t) m a → ConfigureNamed accepts P s m a false
-  unfolding reconfigure
+  unfolding reconfigure dropAndAdd
   reconfigure-reads right r =
       ⊎-elim (λ q. check right (check-reads accepts P m a q))
       (λ q.
@@ -112,13 +112,14 @@ module _ (accepts : ℕ → Bool) (P : ℕ) (t : Table) (id : ℕ) (s : Slot) (m
       (λ v. absurd (ranges-blind _ _ _ (v .0) m a (v .2)))
       (λ v.
       let all = all-inside (lies .0) (v .0) in
-      ⊎-elim (λ x. absurd (blind-reads _ m a (terminateAll-blind _ _ _ _) x))
+      ⊎-elim
       (λ x. ⊎-elim
+      (λ y. absurd (blind-reads _ m a (terminateAll-blind _ _ _ _) y))
       (λ y.
-      let j = adds-reads all _ _ (run-length _ m 0) y in
+      let j = adds-reads all _ _ (run-length _ m 0) (y .1) in
       ⊎-elim (context right (pass .0) all (j .0) (j .1)) (port right (pass .0) all (j .0) (j .1)) (j .2))
-      (λ y. absurd (blind-reads _ _ a (finish-blind _ _ _ _) (y .1)))
-      (reads-bind _ _ _ 0 a (x .1)))
+      (reads-bind _ _ m 0 a x))
+      (λ x. absurd (blind-reads _ _ a (finish-blind _ _ _ _) (x .1)))
       (reads-bind _ _ m 0 a (v .1)))
       (reads-every _ m (ranges-quiet (length m) P (s .base)) _ _ a u))
       (reads-get _ _ _ m a (lies .1)))
@@ -128,19 +129,19 @@ module _ (accepts : ℕ → Bool) (P : ℕ) (t : Table) (id : ℕ) (s : Slot) (m
 
   -- past the check, the drop flags and the ranges
   past : Settled (s .state) → CheckPasses accepts P m → AllInside m P (s .base)
-      → ((w : Walk) (k : Mem) → length k ≡ length m → Seen (each (setBits 30 2 Flags) (add id P (s .base)) w) k a)
+      → ((w : Walk) (k : Mem) → length k ≡ length m → Seen (addAll id P (s .base) (setBits 30 2 Flags) w) k a)
       → Seen (reconfigure accepts id P s (length m) t) m a
-  unfolding reconfigure
+  unfolding reconfigure dropAndAdd
   past right passes all h =
       seen-then _ _ m a _ (quiet-stores _ m (check-quiet accepts (length m) P)) (passes-check accepts P m passes)
       (seen-need _ _ _ _ m a (all .0)
       (seen-later _ _ _ m a
       (seen-every _ m (ranges-quiet (length m) P (s .base)) _ _ a (inside-all all)
-      (seen-bind _ _ m 0 a (seen-first _ _ _ a (h _ _ (run-length _ m 0)))))))
+      (seen-first _ _ m a (seen-bind _ _ m 0 a (h _ _ (run-length _ m 0)))))))
 
   -- each byte that the rule names, and that the call does not itself store to, is read
   pub reconfigure-seen : ConfigureNamed accepts P s m a false → Seen (reconfigure accepts id P s (length m) t) m a
-  unfolding reconfigure andThen add copyLaunch launch
+  unfolding reconfigure andThen addAll add copyLaunch launch
   reconfigure-seen (check right h) = λ n. bind-reads _ _ m a (check-seen accepts P m a h)
   reconfigure-seen (drops right passes h) =
       seen-then _ _ m a _ (quiet-stores _ m (check-quiet accepts (length m) P)) (passes-check accepts P m passes)
@@ -165,4 +166,4 @@ unfolding reconfigure Clean
 reconfigure-clean accepts id P s len t =
     clean-then _ _ (check-quiet accepts len P)
     (λ adds. clean-need _ _ _ _
-    (λ drops. clean-every _ _ _ (ranges-quiet len P (s .base)) (firm-clean _ (firm-bind _ _ (λ w. firm-bind _ _ (finish-firm id s Configured))))))
+    (λ drops. clean-every _ _ _ (ranges-quiet len P (s .base)) (firm-clean _ (firm-bind _ _ (finish-firm id s Configured)))))

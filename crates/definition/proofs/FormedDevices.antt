@@ -5,14 +5,14 @@ use mathlib.Core.Bool.{Bool, true, false}
 use Prim.Native.Nat.{ℕ, _+_, _*_, _≤_}
 use native.Mathlib.Omega.{arith}
 use Rattle.guest.specs.Bytes.{_⊕_, number, bit, count, setBits}
-use Rattle.guest.specs.Prog.{Prog, Result, each, andThen}
+use Rattle.guest.specs.Prog.{Prog, Result, andThen}
 use Rattle.guest.specs.Forms.{Gives}
 use Rattle.guest.proofs.ListLaws.{All, all-map, count-all, those-all}
 use Rattle.guest.proofs.FormLaws.{gives-need, gives-bind, gives-then, gives-every}
 use Rattle.definition.specs.Types.{Endpoint, SlotState, Free, Enabled, Default, Addressed, Configured, Slot, Table}
 use Rattle.definition.specs.Table.{slotOf}
 use Rattle.definition.specs.Walks.{Walk, begin, terminate, terminateAll, copyLaunch}
-use Rattle.definition.specs.Commands.{Told, contextCheck, copyContexts, Plan, plan, carryOut, addressDevice, finish, deconfigure, needContexts, add, reconfigure, configureEndpoint, evaluateContext, resetDevice}
+use Rattle.definition.specs.Commands.{Told, contextCheck, copyContexts, Plan, plan, carryOut, addressDevice, finish, deconfigure, needContexts, dropAndAdd, reconfigure, configureEndpoint, evaluateContext, resetDevice}
 use Rattle.definition.proofs.TableLaws.{IsSlot}
 use Rattle.definition.proofs.FormedFacts.{Proper, proper-length, zero-ok, Zeroes, InUse, Fits, slot-fits}
 use Rattle.definition.proofs.FormedTables.{closes-slot}
@@ -107,16 +107,16 @@ flags-second x = all-map (λ i h. h .0) (those-all Second (bit x) (count 30 2) (
 -- drops, then adds of contexts that lie in memory
 reconfigure-fine : (accepts : ℕ → Bool) (id P : ℕ) (s : Slot) (len : ℕ) (t : Table) → Proper t → IsSlot id → t .length ≡ len
     → InUse (t .length) (s .base) id t → Gives Fine (reconfigure accepts id P s len t)
-unfolding reconfigure needContexts Gives
+unfolding reconfigure dropAndAdd needContexts Gives
 reconfigure-fine accepts id P s len t p h e u =
     checked-fine accepts len P _ (λ adds.
     gives-need Fine len P 4 _ (λ q. omega arith) (λ _ drops.
     gives-every Inside Fine (setBits 30 2 adds) (needContexts len P (s .base)) _ needed (λ a.
-    gives-bind Way Fine (terminateAll id (s .base) (setBits 30 2 (number drops)) (begin t)) _
-    (terminates-kept t id (s .base) h (setBits 30 2 (number drops)) (flags-second (number drops)) (begin t) (began-used p id (s .base) u)) (λ w k.
-    gives-bind Way Fine (each (setBits 30 2 adds) (add id P (s .base)) w) _
-    (adds-kept t id (s .base) h P (setBits 30 2 adds) (flags-second adds) a w k)
-    (λ v g. finish-fine t id s Configured v p h (u .room) (λ s u id g. g) g)))))
+    gives-bind Way Fine (dropAndAdd id P (s .base) (setBits 30 2 (number drops)) (setBits 30 2 adds) (begin t)) _
+    (gives-bind Way Way (terminateAll id (s .base) (setBits 30 2 (number drops)) (begin t)) _
+    (terminates-kept t id (s .base) h (setBits 30 2 (number drops)) (flags-second (number drops)) (begin t) (began-used p id (s .base) u))
+    (λ w k. adds-kept t id (s .base) h P (setBits 30 2 adds) (flags-second adds) a w k))
+    (λ v g. finish-fine t id s Configured v p h (u .room) (λ s u id g. g) g))))
   where
     Way : Walk → Type 0
     Way w = Kept t id (s .base) First (w .table)

@@ -7,7 +7,7 @@ use Prim.Native.Nat.{ℕ, _+_, _*_, _≤_, _<_}
 use native.Mathlib.Omega.{arith}
 use native.Mathlib.Decide.{ℕ-discrete}
 use Rattle.guest.specs.Bytes.{_⊕_, count}
-use Rattle.guest.specs.Prog.{done, put, bind, each}
+use Rattle.guest.specs.Prog.{done, put, bind}
 use Rattle.guest.specs.Forms.{Gives}
 use Rattle.guest.proofs.ListLaws.{All, all-both}
 use Rattle.guest.proofs.FormLaws.{gives-choose, gives-bind, gives-each, gives-counted}
@@ -15,7 +15,7 @@ use Rattle.definition.specs.Types.{Endpoint, Table}
 use Rattle.definition.specs.Table.{isDisabled, disabled, endpointOf, withEndpoint, isZero, endpointOk}
 use Rattle.definition.specs.Steps.{launchAt, terminateAt}
 use Rattle.definition.specs.Walks.{Walk, terminate, terminateAll, launch, copyLaunch}
-use Rattle.definition.specs.Commands.{add}
+use Rattle.definition.specs.Commands.{add, addAll}
 use Rattle.definition.proofs.TableLaws.{Sized, IsSlot, IsEndpoint, endpoint-here, endpoint-other}
 use Rattle.definition.proofs.FormedFacts.{Proper, zero-ok, ok-zero, enabled-ok, Serve, InUse}
 use Rattle.definition.proofs.FormedTables.{Beside, beside-same, beside-endpoint}
@@ -96,8 +96,8 @@ module _ (t : Table) (id base : ℕ) (s : IsSlot id) where
 
   -- so do adds, each of a context that lies in memory
   pub adds-kept : (P : ℕ) (is : List ℕ) → All Second is → All (λ i. (base ⊕ 32 * i) + 32 ≤ t .length) is → (w : Walk) → Kept t id base First (w .table)
-      → Gives (λ v. Kept t id base First (v .table)) (each is (add id P base) w)
-  unfolding add
+      → Gives (λ v. Kept t id base First (v .table)) (addAll id P base is w)
+  unfolding addAll add
   adds-kept P is a b w k =
       gives-each (λ i. Second i × ((base ⊕ 32 * i) + 32 ≤ t .length)) (λ v. Kept t id base First (v .table)) is (add id P base) w (all-both a b) k
       (λ i n v h. launch-kept t id base s First First i (omega arith, n .0 .1) (λ j f q o. o) (n .1) (λ e d q. d) _ v h)

@@ -177,19 +177,25 @@ deconfigure id s next t = bind (terminateAll id (s .base) (count 30 2) (begin t)
 unfoldable pub needContexts : ℕ → ℕ → ℕ → ℕ → Prog (Result Unit)
 needContexts len P base i = need len (P ⊕ 32 * (i + 1)) 32 (need len (base ⊕ 32 * i) 32 (done (ok tt)))
 
+-- "copy from P+32(i+1) to base+32i, launch"
 unfoldable pub add : ℕ → ℕ → ℕ → ℕ → Walk → Prog Walk
 add id P base i w = copyLaunch id base (P ⊕ 32 * (i + 1)) i w
 
--- "read drop flags at P, then add flags. Bits 2..31 only. All drops, ascending, then all adds, ascending"
+unfoldable pub addAll : ℕ → ℕ → ℕ → List ℕ → Walk → Prog Walk
+addAll id P base is w = each is (add id P base) w
+
+-- "All drops, ascending, then all adds, ascending"
+unfoldable pub dropAndAdd : ℕ → ℕ → ℕ → List ℕ → List ℕ → Walk → Prog Walk
+dropAndAdd id P base drops adds w = bind (terminateAll id base drops w) (addAll id P base adds)
+
+-- "read drop flags at P, then add flags. Bits 2..31 only."
 unfoldable pub reconfigure : (ℕ → Bool) → ℕ → ℕ → Slot → ℕ → Table → Prog (Result Told)
 reconfigure accepts id P s len t =
     andThen (contextCheck accepts len P) λ adds.
     need len P 4
     (get P 4 λ drops.
     every (setBits 30 2 adds) (needContexts len P (s .base))
-    (bind (terminateAll id (s .base) (setBits 30 2 (number drops)) (begin t)) λ w.
-    bind (each (setBits 30 2 adds) (add id P (s .base)) w) λ v.
-    finish id s Configured v))
+    (bind (dropAndAdd id P (s .base) (setBits 30 2 (number drops)) (setBits 30 2 adds) (begin t)) (finish id s Configured)))
 
 -- "State first." "DC=1: terminate endpoints 2..31, to Addressed; P is not used."
 unfoldable pub configureEndpoint : (ℕ → Bool) → ℕ → ℕ → Bool → ℕ → Table → Prog (Result Told)

@@ -49,6 +49,6 @@ terminateAll id base is w = each is (terminate id base) w
 unfoldable pub launch : ℕ → ℕ → ℕ → Walk → Prog Walk
 launch id base i w = get (base + 6) 1 λ port. bind (launchAt (base ⊕ 32 * i)) λ e. done (begun id i (number port) e w)
 
--- "copy from P+32(i+1) to base+32i, launch": the input context is at c
+-- the 32 bytes at c to base+32i, then launch i
 unfoldable pub copyLaunch : ℕ → ℕ → ℕ → ℕ → Walk → Prog Walk
 copyLaunch id base c i w = get c 32 λ context. put (base ⊕ 32 * i) context (launch id base i w)
