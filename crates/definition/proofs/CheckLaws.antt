@@ -3,7 +3,7 @@
 use mathlib.Core.Path.{_≡_, refl, sym, ap}
 use mathlib.Core.Logic.{⊎-elim}
 use mathlib.Core.Bool.{Bool, true, false}
-use mathlib.Core.List.{[]}
+use mathlib.Core.List.{[], _∷_, map}
 use Prim.Native.Nat.{ℕ, _+_, _*_, _%_, _^_, _≤_, _<_}
 use native.Mathlib.Nat.{add-assoc}
 use native.Mathlib.Omega.{arith}
@@ -17,7 +17,7 @@ use Rattle.guest.proofs.RunLaws.{run-get, choose-yes, need-yes, value-choose, v
 use Rattle.guest.proofs.ReadLaws.{reads-done, reads-get, reads-choose, reads-need, get-reads, Seen, seen-here, seen-later, seen-need}
 use Rattle.guest.proofs.FormLaws.{quiet-choose, quiet-need, quiet-every, quiet-stores}
 use Rattle.guest.proofs.EveryLaws.{Reached, up-reached, reached-up, Passes, every-run, every-value, reads-every, seen-check}
-use Rattle.definition.specs.Commands.{checkType, contextCheck}
+use Rattle.definition.specs.Commands.{usbTypes, checkType, contextCheck}
 use Rattle.definition.specs.Rules.{Bytes, Added, Accepted, CheckNamed, flags, types, CheckPasses}
 
 pub truly : (b : Bool) → b ≡ true → T b
@@ -26,6 +26,11 @@ truly b e = rw e tt
 pub true-of : (b : Bool) → T b → b ≡ true
 true-of true t = refl
 true-of false t = absurd t
+
+-- of the eight types 2, 3, 4, 6 and 7 are accepted
+pub eight-types : map usbTypes (count 8 0) ≡ false ∷ false ∷ true ∷ true ∷ true ∷ false ∷ true ∷ true ∷ []
+unfolding count
+eight-types = refl
 
 -- ---- it stores nothing
 
