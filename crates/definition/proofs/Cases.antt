@@ -130,5 +130,5 @@ shown c =
     (r .answers, map (λ a. getD (r .memory) a 0) (c .places), e .pointer, e .cycle)
 
 pub starred : map shown cases ≡ map expected cases
-unfolding memory says ready enabled addressed toAddressed configured toConfigured cases expected shown number bytes inside count those run splice choose bind each need passed andThen every all step course left endpointOf slotOf withEndpoint withSlot withRegisters freshTable lookup isZero endpointOk usedOk noEndpoint slotOk wellFormed entry stepBy steps.step launchAt terminateAt terminate terminateAll launch copyLaunch meaning prog commands.formed commands.lent commands.onSlot commands.onEndpoint commands.setLimit commands.setDcbaap commands.enableSlot commands.checkType commands.contextCheck commands.plan commands.copyContexts commands.carryOut commands.addressDevice commands.settled commands.finish commands.deconfigure commands.needContexts commands.add commands.addAll commands.dropAndAdd commands.reconfigure commands.configureEndpoint commands.endpointCall
+unfolding memory says ready enabled addressed toAddressed configured toConfigured cases expected shown number bytes inside count those run splice choose bind each need passed andThen every all step course left endpointOf slotOf withEndpoint withSlot withRegisters freshTable lookup isZero endpointOk usedOk noEndpoint slotOk wellFormed entry stepBy steps.step launchAt terminateAt terminate terminateAll launch copyLaunch meaning prog commands.formed commands.lent commands.onSlot commands.onEndpoint commands.setLimit commands.setDcbaap commands.enableOne commands.enableSlot commands.checkType commands.contextCheck commands.plan commands.copyContexts commands.carryOut commands.addressDevice commands.settled commands.finish commands.deconfigure commands.needContexts commands.add commands.addAll commands.dropAndAdd commands.reconfigure commands.configureEndpoint commands.endpointCall
 starred = refl

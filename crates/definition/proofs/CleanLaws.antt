@@ -3,11 +3,9 @@
 use mathlib.Core.Bool.{true, false}
 use mathlib.Core.List.{List, [], _∷_}
 use Prim.Native.Nat.{ℕ}
-use Rattle.guest.specs.Bytes.{count, those}
 use Rattle.guest.specs.Forms.{Firm, Clean}
 use Rattle.guest.proofs.FormLaws.{firm-clean, firm-bind, firm-choose, firm-ok, clean-done, clean-choose, clean-then, clean-firm}
 use Rattle.definition.specs.Types.{Endpoint, Input, Table}
-use Rattle.definition.specs.Table.{isFree, slotOf}
 use Rattle.definition.specs.Steps.{stepBy, step}
 use Rattle.definition.specs.Commands as commands
 use Rattle.definition.specs.Commands.{usbTypes, endpointCall, enableOne}
@@ -31,6 +29,7 @@ endpointCall-clean a b id i input len t =
     slot-clean a t len id _ (λ s. endpoint-clean b t id i _ (λ e. clean-firm _ _ (step-clean e input _) (λ r. firm-ok _)))
 
 enable-clean : (t : Table) (ids : List ℕ) → Clean (enableOne t ids)
+unfolding enableOne
 enable-clean t [] = clean-done _
 enable-clean t (id ∷ ids) = clean-done _
 
@@ -38,7 +37,7 @@ pub call-clean : (c : Call) (len : ℕ) (t : Table) → Clean (meaning c len t)
 unfolding meaning commands.setLimit commands.setDcbaap commands.enableSlot commands.disableSlot commands.addressDevice commands.configureEndpoint commands.evaluateContext commands.resetDevice commands.resetAll commands.formed commands.lent
 call-clean (setLimit n) len t = clean-choose _ _ _ (clean-choose _ _ _ (clean-done _) (clean-done _)) (clean-done _)
 call-clean (setDcbaap a) len t = clean-choose _ _ _ (clean-done _) (clean-done _)
-call-clean enableSlot len t = clean-choose _ _ _ (enable-clean t (those (λ id. isFree (slotOf t id)) (count (t .limit) 1))) (clean-done _)
+call-clean enableSlot len t = clean-choose _ _ _ (enable-clean t _) (clean-done _)
 call-clean (disableSlot id) len t = slot-clean _ t len id _ (λ s. firm-clean _ (firm-bind _ _ (λ w. firm-ok _)))
 call-clean (addressDevice id P bsr) len t =
     slot-clean _ t len id _ (λ s. clean-then _ _ (check-quiet usbTypes len P) (λ adds. carry-clean len P t id s _))

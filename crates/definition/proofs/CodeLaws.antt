@@ -8,13 +8,11 @@ use native.Mathlib.Omega.{arith}
 use borrow.Author.Tests.{ltb-true, ltb-false}
 use lib.Dec.{lit<, lit≤}
 use lib.ListN.{length}
-use Rattle.guest.specs.Bytes.{count, those}
 use Rattle.guest.specs.Prog.{every, need, Mem, Prog, done, get, put, Ran, ran, run, choose, bind, Result, ok, refuse, andThen}
 use Rattle.guest.specs.Forms.{Gives}
 use Rattle.guest.proofs.RunLaws.{run-bind, run-done}
 use Rattle.guest.proofs.FormLaws.{clean-refusal, gives-value, gives-get, gives-put, gives-choose, gives-need, gives-bind, gives-then}
 use Rattle.definition.specs.Types.{Endpoint, Input, SlotState, Free, Enabled, Default, Addressed, Configured, Slot, Table}
-use Rattle.definition.specs.Table.{isFree, slotOf}
 use Rattle.definition.specs.Steps.{Stepped, stepBy, step}
 use Rattle.definition.specs.Commands as commands
 use Rattle.definition.specs.Commands.{Told, answer, usbTypes, endpointCall, enableOne, checkType, contextCheck, onSlot, settled, finish, deconfigure, reconfigure, needContexts, copyContexts, carryOut, Plan, fresh, again, never}
@@ -108,6 +106,7 @@ endpointCall-coded a b id i input len t h k =
     (λ e. gives-then (Coded (λ (r : Stepped). r .code ≤ 1)) (Coded Carried) _ _ (step-coded e input _) (λ r l. coded-ok Carried _ l) (λ c l. l)))
 
 enable-coded : (t : Table) (ids : List ℕ) → Gives (Coded Carried) (enableOne t ids)
+unfolding enableOne
 enable-coded t [] = coded-refuse Carried 9 (lit< tt)
 enable-coded t (id ∷ ids) = coded-ok Carried _ (lit≤ tt)
 
@@ -159,7 +158,7 @@ call-coded (setLimit n) len t =
     (coded-refuse Carried 198 (lit< tt))
 call-coded (setDcbaap a) len t = coded-choose Carried _ _ _ (coded-ok Carried _ (lit≤ tt)) (coded-refuse Carried 198 (lit< tt))
 call-coded enableSlot len t =
-    coded-choose Carried _ _ _ (enable-coded t (those (λ id. isFree (slotOf t id)) (count (t .limit) 1))) (coded-refuse Carried 198 (lit< tt))
+    coded-choose Carried _ _ _ (enable-coded t _) (coded-refuse Carried 198 (lit< tt))
 call-coded (disableSlot id) len t = slot-coded 11 t len id _ (lit< tt) (λ s. coded-bind Carried _ _ (λ w. coded-ok Carried _ (lit≤ tt)))
 call-coded (addressDevice id P bsr) len t =
     slot-coded 11 t len id _ (lit< tt) (λ s. coded-then Carried _ _ (check-coded usbTypes len P) (λ adds. carry-coded len P t id s _))

@@ -7,7 +7,6 @@ use mathlib.Core.Bool.{Bool, true, false, true≢false}
 use mathlib.Core.List.{List, [], _∷_}
 use Prim.Native.Nat.{ℕ}
 use lib.ListN.{length, getD}
-use Rattle.guest.specs.Bytes.{count, those}
 use Rattle.guest.specs.Prog.{Mem, Prog, Reads, Writes, Result, andThen}
 use Rattle.guest.specs.Forms.{Blind}
 use Rattle.guest.specs.Trace.{Event, Left, course, left, Named, NamedFirst, SameCourse}
@@ -15,7 +14,7 @@ use Rattle.guest.proofs.ReadLaws.{reads-done, reads-bind, reads-then, bind-read
 use Rattle.guest.proofs.FormLaws.{blind-reads, blind-done, blind-choose, blind-bind, blind-then, blind-each, quiet-stores}
 use Rattle.guest.proofs.TraceLaws.{same-acts, same-course, same-course-first}
 use Rattle.definition.specs.Types.{Endpoint, Input, Slot, Table, Answer, Outcome}
-use Rattle.definition.specs.Table.{freshTable, isFree, slotOf}
+use Rattle.definition.specs.Table.{freshTable}
 use Rattle.definition.specs.Steps.{stepBy, step}
 use Rattle.definition.specs.Commands as commands
 use Rattle.definition.specs.Commands.{Told, usbTypes, endpointCall, enableOne}
@@ -39,6 +38,7 @@ endpointCall-blind a b id i input len t =
     slot-blind a t len id _ (λ s. endpoint-blind b t id i _ (λ e. blind-then _ _ (step-blind e input _) (λ r. blind-done _)))
 
 enable-blind : (t : Table) (ids : List ℕ) → Blind (enableOne t ids)
+unfolding enableOne
 enable-blind t [] = blind-done _
 enable-blind t (id ∷ ids) = blind-done _
 
@@ -54,7 +54,7 @@ module _ (t : Table) (m : Mem) (a : ℕ) where
   meaning-covered (setLimit n) r = nothing _ (blind-choose _ _ _ (blind-choose _ _ _ (blind-done _) (blind-done _)) (blind-done _)) r
   meaning-covered (setDcbaap b) r = nothing _ (blind-choose _ _ _ (blind-done _) (blind-done _)) r
   meaning-covered enableSlot r =
-      nothing _ (blind-choose _ _ _ (enable-blind t (those (λ id. isFree (slotOf t id)) (count (t .limit) 1))) (blind-done _)) r
+      nothing _ (blind-choose _ _ _ (enable-blind t _) (blind-done _)) r
   meaning-covered (disableSlot id) r = nothing _ (slot-blind _ t (length m) id _ (λ s. blind-bind _ _ (freeing-blind id t) (λ w. blind-done _))) r
   meaning-covered (addressDevice id P bsr) r =
       let q = slot-reads _ t id _ m a r in

@@ -57,7 +57,7 @@ module _ (t : Table) where
 
   enabling : (m : Mem) (ids : List ℕ) → those Free (count (t .limit) 1) ≡ ids
       → Enabling t m (ran (told t (run (enableOne t ids) m 0 .value)) (run (enableOne t ids) m 0 .memory) (run (enableOne t ids) m 0 .stored))
-  unfolding run
+  unfolding run enableOne
   enabling m [] e = full (all-used e)
   enabling m (id ∷ ids) e = gives id (first id ids e)
 

@@ -45,7 +45,7 @@ free-zeroes Configured s t id e f = absurd (clash false e refl)
 
 -- the first free slot, if there is one, becomes Enabled
 enable-one-fine : (t : Table) → Proper t → (is : List ℕ) → All (λ id. IsSlot id × (isFree (slotOf t id) ≡ true)) is → Gives Fine (enableOne t is)
-unfolding Gives
+unfolding Gives enableOne
 enable-one-fine t p [] a = λ q. omega arith
 enable-one-fine t p (id ∷ is) (more h a) =
     (λ q. omega arith, closes-slot p (h .0) (beside-same id p) _ (refl, free-zeroes (slotOf t id .state) (slotOf t id) t id (h .1) (slot-fits p id (h .0))))

@@ -63,7 +63,7 @@ unfoldable pub setDcbaap : ℕ → Table → Prog (Result Told)
 setDcbaap a t = formed t (done (ok (answer 0, withRegisters t (t .limit) a)))
 
 -- "Its DCBAA entry address is DCBAAP + 8 × id, fixed at that moment."
-abbrev pub enableOne : Table → List ℕ → Prog (Result Told)
+unfoldable pub enableOne : Table → List ℕ → Prog (Result Told)
 enableOne t [] = done (refuse 9)
 enableOne t (id ∷ _) =
     done (ok (
