@@ -1,0 +1,85 @@
+// Disable Slot, Evaluate Context and Reset Device (xHCI 4.6.4, 4.6.7, 4.6.11).
+use contexts::Checked;
+use crate::outcome;
+use crate::outcome::Tally;
+use definition::Outcome;
+use definition::Slot;
+use definition::SlotState;
+use definition::Table;
+
+const FREE: Slot = Slot {
+    state: SlotState::Free,
+    base: 0,
+    entry: 0,
+};
+
+// All endpoints are terminated, and the slot is free. The slot state byte is untouched.
+pub fn disable_slot(t: Table, mem: &mut [u8], id: u64, slot: Slot) -> Outcome {
+    let base = slot.base;
+    let w = walks::terminate_from(t, mem, id, base, 1);
+    let mut u = w.table;
+    let j = (id - 1) as usize;
+    u.slots[j] = FREE;
+    outcome::success(
+        u,
+        Tally {
+            launched: 0,
+            terminated: w.terminated,
+            port: 0,
+            stored: w.stored,
+        },
+    )
+}
+
+// The context check alone.
+pub fn evaluate_context(t: Table, mem: &[u8], id: u64, slot: Slot, pointer: u64) -> Outcome {
+    let checked = contexts::context_check(mem, pointer);
+    if let Checked::Refused(code) = checked {
+        return scan::refused(t, code);
+    }
+    outcome::success(
+        t,
+        Tally {
+            launched: 0,
+            terminated: 0,
+            port: 0,
+            stored: 0,
+        },
+    )
+}
+
+// Configure Endpoint and Reset Device take a slot in this state.
+pub fn is_settled(state: SlotState) -> bool {
+    match state {
+        SlotState::Addressed => true,
+        SlotState::Configured => true,
+        _ => false,
+    }
+}
+
+// Endpoints 2 to 31 are terminated, and the slot goes to its next state.
+pub fn deconfigure(t: Table, mem: &mut [u8], id: u64, slot: Slot, next: SlotState) -> Outcome {
+    let base = slot.base;
+    let w = walks::terminate_from(t, mem, id, base, 2);
+    outcome::finish(
+        w.table,
+        mem,
+        id,
+        slot,
+        next,
+        Tally {
+            launched: 0,
+            terminated: w.terminated,
+            port: 0,
+            stored: w.stored,
+        },
+    )
+}
+
+pub fn reset_device(t: Table, mem: &mut [u8], id: u64, slot: Slot) -> Outcome {
+    let state = slot.state;
+    if !is_settled(state) {
+        return scan::refused(t, 19);
+    }
+    deconfigure(t, mem, id, slot, SlotState::Default)
+}
