@@ -1,6 +1,6 @@
--- What the code of the context check does is what the definition's program does.
+-- What the code of the context check does is what the definition's program does. The last section is for callers.
 -- Assumes nothing.
-use mathlib.Core.Path.{_≡_, refl, sym, ap, _∙_}
+use mathlib.Core.Path.{_≡_, refl, sym, _∙_}
 use mathlib.Core.Logic.{inl, inr}
 use mathlib.Core.Bool.{Bool, true, false, cond}
 use Prim.Native.Nat.{ℕ, zero, suc, _+_, _-_, _*_, _^_, _≤_, _<_}
@@ -8,15 +8,15 @@ use native.Mathlib.Omega.{arith}
 use borrow.Author.Tests.{ne-eqb}
 use lib.ListN.{length}
 use Rattle.guest.specs.Bytes.{number, _⊕_, inside, located, bit, setBits, typeOf}
-use Rattle.guest.specs.Prog.{Mem, Prog, done, block, ran, run, Ends, choose, Result, ok, refuse, every}
+use Rattle.guest.specs.Prog.{Mem, Prog, done, block, run, Ends, Result, ok, refuse, andThen}
 use Rattle.guest.specs.declared.Located.{Located}
 use Rattle.guest.specs.declared.Located.the-variants.{At, Outside}
-use Rattle.guest.proofs.RunLaws.{run-done, run-get, choose-yes, choose-no, inside-yes, inside-no, need-yes, need-no}
+use Rattle.guest.proofs.RunLaws.{run-done, run-get, inside-yes, inside-no, need-yes, need-no, passes, refuses}
 use Rattle.guest.proofs.LoopLaws.{Checking, checking-begins, checking-goes, checking-skips, checking-refuses, checking-ends}
 use Rattle.definition.specs.Commands.{usbTypes, checkType, contextCheck}
 use Rattle.contexts.specs.declared.Checked.{Checked}
 use Rattle.contexts.specs.declared.Checked.the-variants.{Adds, Refused}
-use Rattle.contexts.specs.Checks.{Failure, told, Checks, verdict, Judges, ChecksTypes}
+use Rattle.contexts.specs.Checks.{Checks, Judges, ChecksTypes}
 use Rattle.contexts.proofs.GuestLaws.{located-at, located-outside, flag-set, flag-clear, flags-done, ends-test}
 
 -- ---- the accepted types
@@ -39,6 +39,7 @@ adds-refused f c e = let z : _≡_ {A = ℕ} 0 1 = cc in omega arith
 abbrev typeAt : ℕ → ℕ → ℕ
 typeAt P i = P ⊕ (32 * (i + 1) + 4)
 
+-- as the code finds its place, reads it and judges it
 module _ (P i : ℕ) (m : Mem) {address : ℕ} {place : Located} (a : address ≡ typeAt P i) (found : place ≡ located (length m) address 1) where
   pub type-outside : place ≡ Outside → Judges P i m 193
   unfolding checkType run
@@ -76,6 +77,7 @@ module _ (P adds : ℕ) (m : Mem) where
   pub types-begin : CheckedTo 1
   types-begin = checking-begins One (done (ok adds)) m 0 (setBits 31 1 adds)
 
+  -- the turn at i
   module _ {i : ℕ} {flag : Bool} (left : i < 32) (f : flag ≡ bit adds i) (t : CheckedTo i) where
     pub type-skipped : flag ≡ false → CheckedTo (i + 1)
     type-skipped e = checking-skips One (done (ok adds)) t (flag-clear 32 i adds left (sym f ∙ e))
@@ -101,7 +103,7 @@ module _ (P adds : ℕ) (m : Mem) where
         codes = λ c e. absurd (adds-refused adds c e);
       }
 
--- ---- the whole
+-- ---- the whole: the add flags are found, read, and handed to the loop
 
 module _ (P : ℕ) (m : Mem) {address : ℕ} {place : Located} (a : address ≡ P ⊕ 4) (found : place ≡ located (length m) address 4) where
   pub flags-outside : place ≡ Outside → Checks P m (Refused 193)
@@ -121,10 +123,17 @@ module _ (P : ℕ) (m : Mem) {address : ℕ} {place : Located} (a : address ≡ 
       let p = located-at (length m) (P ⊕ 4) 4 (rw a at (sym found ∙ here)) in
       let e : adds ≡ number (block m (P ⊕ 4) 4) = b ∙ rw (p .0) in
       record {
-        ends = record {
-          ends = rw (need-yes _ _ _ _ (inside-yes _ _ _ (p .1)), run-get) (rw e at (w .ends .ends));
-        };
+        ends = record { ends = rw (need-yes _ _ _ _ (inside-yes _ _ _ (p .1)), run-get) (rw e at (w .ends .ends)) };
         flags = λ x d. w .flags x d ∙ e;
         fits = λ x d. omega (arith, w .flags x d);
         codes = w .codes;
       }
+
+-- ---- for callers: a command goes on with the add flags, or is refused as a whole
+
+module _ {B : Type 0} (P : ℕ) (m : Mem) (f : ℕ → Prog (Result B)) {r : Checked} (w : Checks P m r) where
+  pub check-goes-on : {adds : ℕ} → r ≡ Adds adds → run (andThen (contextCheck usbTypes (length m) P) f) m 0 ≡ run (f adds) m 0
+  check-goes-on {adds} e = let d : Ends (contextCheck usbTypes (length m) P) m 0 (ok adds) m 0 = rw e at (w .ends) in passes f d
+
+  pub check-refuses : {c : ℕ} → r ≡ Refused c → Ends (andThen (contextCheck usbTypes (length m) P) f) m 0 (refuse c) m 0
+  check-refuses {c} e = let d : Ends (contextCheck usbTypes (length m) P) m 0 (refuse c) m 0 = rw e at (w .ends) in refuses f d

@@ -7,7 +7,6 @@ use Prim.Native.Nat.{ℕ, _+_, _-_, _≤_, _<_}
 use native.Mathlib.Omega.{arith}
 use Rattle.guest.specs.Bytes.{inside, located, bit, those, setBits}
 use Rattle.guest.specs.Prog.{Mem, Prog, done, run, Ends, choose, Result, ok, refuse, every, all}
-use Rattle.guest.specs.declared.Located.{Located}
 use Rattle.guest.specs.declared.Located.the-variants.{At, Outside}
 use Rattle.guest.proofs.ListLaws.{count-none, count-first, those-yes, those-no, and-left, and-right}
 use Rattle.guest.proofs.RunLaws.{inside-yes, passes, refuses}

@@ -1,11 +1,11 @@
--- What a caller of `ranges_inside` has of its answer.
+-- The ranges of added endpoints: what a caller of `ranges_inside` has of its answer, and the turns of its loop.
 -- Assumes nothing.
-use mathlib.Core.Path.{_≡_, refl, sym, ap, _∙_}
-use mathlib.Core.Bool.{Bool, true, false, cond, _&&_}
+use mathlib.Core.Path.{_≡_, sym, _∙_}
+use mathlib.Core.Bool.{Bool, true, false, cond}
 use Prim.Native.Nat.{ℕ, _+_, _-_, _*_, _≤_, _<_}
 use native.Mathlib.Omega.{arith}
-use Rattle.guest.specs.Bytes.{_⊕_, inside, bit, count, setBits}
-use Rattle.guest.specs.Prog.{Mem, Prog, done, ran, run, Ends, choose, Result, ok, refuse, need, every, all}
+use Rattle.guest.specs.Bytes.{_⊕_, inside, bit, setBits}
+use Rattle.guest.specs.Prog.{Mem, Prog, run, Ends, Result, ok, refuse, need, every}
 use Rattle.guest.proofs.ListLaws.{All, all-map, all-in, count-in, those-in, and-left, and-right, all-passes}
 use Rattle.guest.proofs.RunLaws.{inside-yes}
 use Rattle.guest.proofs.LoopLaws.{Testing, testing-begins, testing-goes, testing-ends, testing-fails}
@@ -52,14 +52,15 @@ module _ (len P base adds : ℕ) where
 
 -- ---- the loop of `ranges_inside`
 
--- those before i have passed
 module _ (len P base adds : ℕ) where
+  -- those before i have passed
   abbrev pub Tested : ℕ → Type 0
   Tested i = Testing (bothInside len P base) (setBits 30 2 adds) (setBits (32 - i) i adds) true
 
   pub ranges-begin : Tested 2
   ranges-begin = testing-begins (bothInside len P base) (setBits 30 2 adds)
 
+  -- the turn at i
   module _ {i : ℕ} {flag : Bool} (left : i < 32) (f : flag ≡ bit adds i) (t : Tested i) where
     pub range-skipped : flag ≡ false → Tested (i + 1)
     range-skipped e = testing-skips (bothInside len P base) t (flag-clear 32 i adds left (sym f ∙ e))

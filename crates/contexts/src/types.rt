@@ -6,7 +6,7 @@ ghost use Prim.Native.Nat.{_<_};
 ghost use Rattle.definition.specs.Commands.{usbTypes};
 ghost use Rattle.contexts.specs.Checks.{Judges, ChecksTypes};
 
-// The types that USB knows: 0 is none, and 1 and 5 are isochronous.
+// An endpoint type (xHCI 6.2.3) that is accepted: any but 0, not valid, and 1 and 5, isochronous.
 fn accepted(kind: u8) -> bool
     ensures { λ r. ⌜ r ≡ usbTypes kind ⌝ }
 {

@@ -1,49 +1,36 @@
+-- `contexts::context_check` meets its contract. Assumes nothing.
 use native.Mathlib.Omega.{arith}
 use mathlib.Core.Path.{sym, _∙_}
 use lib.ListN.{length}
+use borrow.Author.Needs.{needs}
 use Rattle.contexts.proofs.GuestLaws.{located-fits}
 use Rattle.contexts.proofs.CheckLaws.{flags-outside, flags-checked}
-use borrow.Author.Needs.{needs}
 use Rattle.contexts.proofs.context_check.Statement.{statement}
 use Rattle.contexts.proofs.context_check.Tie as tie
-use Rattle.contexts.proofs.context_check.Reads as reads
-use Rattle.contexts.proofs.context_check.Lts as lts
-use Rattle.contexts.proofs.types.check_types.Reads as check-types-reads
-use Rattle.guest.proofs.address.locate.Reads as locate-reads
-use Rattle.guest.proofs.address.plus.Reads as plus-reads
-use Rattle.guest.proofs.words.read_u32.Reads as read-u32-reads
 
--- src/lib.rt:23:9
 plus-requires : tie.Need-plus-requires
 plus-requires c κs = search needs
 
--- src/lib.rt:24:27
 locate-requires : tie.Need-locate-requires
 locate-requires c κs = search needs
 
--- src/lib.rt:24:21
 enum-known-at : tie.Need-enum-known-at
 enum-known-at c = search needs
 
--- src/lib.rt:25:9
 enum-told : tie.Need-enum-told
 enum-told c = search needs
 
--- src/lib.rt:25:9
 returns : tie.Need-returns
 returns c =
     let a = c .before .before .before .before .before .args in
     flags-outside (a .pointer) (a .mem .now) (c .before .before .before .plus .ensures) (c .before .before .locate .ensures) (c .enum-told .given .1)
 
--- src/lib.rt:27:9
 read-u32-requires : tie.Need-read-u32-requires
 read-u32-requires c κs = let b = c .before .before in located-fits (length (b .before .before .before .before .args .mem .now)) (b .before .before .plus .result) 4 (sym (b .before .locate .ensures) ∙ c .before .at .given .1)
 
--- src/lib.rt:28:5
 check-types-requires : tie.Need-check-types-requires
 check-types-requires c κs = search needs
 
--- src/lib.rt:20:1
 returns-2 : tie.Need-returns-2
 returns-2 c =
     let b = c .before .before .before .before in

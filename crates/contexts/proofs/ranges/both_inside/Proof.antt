@@ -1,50 +1,38 @@
+-- `contexts::ranges::both_inside` meets its contract. Assumes nothing.
 use mathlib.Core.Path.{sym, _∙_}
 use borrow.Author.Tests.{not-true, not-false}
-use Rattle.contexts.specs.Ranges.{bothInside}
 use borrow.Author.Needs.{needs}
+use Rattle.contexts.specs.Ranges.{bothInside}
 use Rattle.contexts.proofs.ranges.both_inside.Statement.{statement}
 use Rattle.contexts.proofs.ranges.both_inside.Tie as tie
-use Rattle.contexts.proofs.ranges.both_inside.Reads as reads
-use Rattle.contexts.proofs.ranges.both_inside.Lts as lts
-use Rattle.contexts.proofs.ranges.context_inside.Reads as context-inside-reads
-use Rattle.guest.proofs.address.plus.Reads as plus-reads
 
--- src/ranges.rt:23:53
 add-plus : tie.Need-add-plus
 add-plus c = search needs
 
--- src/ranges.rt:23:47
 mul-plus : tie.Need-mul-plus
 mul-plus c = search needs
 
--- src/ranges.rt:23:9
 plus-requires : tie.Need-plus-requires
 plus-requires c κs = search needs
 
--- src/ranges.rt:24:45
 mul-plus-2 : tie.Need-mul-plus-2
 mul-plus-2 c = search needs
 
--- src/ranges.rt:24:9
 plus-requires-2 : tie.Need-plus-requires-2
 plus-requires-2 c κs = search needs
 
--- src/ranges.rt:25:9
 context-inside-requires : tie.Need-context-inside-requires
 context-inside-requires c κs = search needs
 
--- src/ranges.rt:26:9
 returns : tie.Need-returns
 unfolding bothInside
 returns c =
     let out = sym (c .before .context-inside .ensures) ∙ not-true _ (c .if1 .taken) in
     rw (← c .before .before .before .plus .ensures, out)
 
--- src/ranges.rt:28:5
 context-inside-requires-2 : tie.Need-context-inside-requires-2
 context-inside-requires-2 c κs = search needs
 
--- src/ranges.rt:19:1
 returns-2 : tie.Need-returns-2
 unfolding bothInside
 returns-2 c =

@@ -1,18 +1,14 @@
+-- `contexts::types::accepted` meets its contract. Assumes nothing.
 use Rattle.contexts.proofs.CheckLaws.{type-low, type-other}
 use Rattle.contexts.proofs.types.accepted.Statement.{statement}
 use Rattle.contexts.proofs.types.accepted.Tie as tie
-use Rattle.contexts.proofs.types.accepted.Reads as reads
-use Rattle.contexts.proofs.types.accepted.Lts as lts
 
--- src/types.rt:10:1
 returns : tie.Need-returns
 returns c = type-other (c .before .before .args .kind) (c .if1 .left) (c .before .match .rest .1)
 
--- src/types.rt:10:1
 returns-2 : tie.Need-returns-2
 returns-2 c = rw (c .match .keys1)
 
--- src/types.rt:10:1
 returns-3 : tie.Need-returns-3
 returns-3 c = type-low (c .before .before .args .kind) (c .if1 .taken)
 

@@ -1,13 +1,10 @@
+-- `contexts::types::check_types` meets its contract. Assumes nothing.
 use Prim.Native.Nat.{_-_}
 use mathlib.Core.Logic.{⊎-elim}
 use borrow.Author.Needs.{needs}
 use Rattle.contexts.proofs.CheckLaws.{CheckedTo, types-begin, type-skipped, type-passed, type-failed, types-end}
 use Rattle.contexts.proofs.types.check_types.Statement.{statement}
 use Rattle.contexts.proofs.types.check_types.Tie as tie
-use Rattle.contexts.proofs.types.check_types.Reads as reads
-use Rattle.contexts.proofs.types.check_types.Lts as lts
-use Rattle.contexts.proofs.types.check_type.Reads as check-type-reads
-use Rattle.guest.proofs.bits.flag.Reads as flag-reads
 
 abbrev Inv-loop : tie.InvT-loop
 Inv-loop mem pointer adds i₀ i = CheckedTo pointer adds mem i
@@ -15,38 +12,30 @@ Inv-loop mem pointer adds i₀ i = CheckedTo pointer adds mem i
 abbrev μ-loop : tie.MeasureT-loop
 μ-loop mem pointer adds i₀ i = 32 - i
 
--- src/types.rt:40:5
 loop-holds : tie.Need-loop-holds Inv-loop μ-loop
 loop-holds c = types-begin _ _ _
 
--- src/types.rt:41:12
 flag-requires : tie.Need-flag-requires Inv-loop μ-loop
 flag-requires c κs = search needs
 
--- src/types.rt:42:49
 cast-check-type : tie.Need-cast-check-type Inv-loop μ-loop
 cast-check-type c = search needs
 
--- src/types.rt:42:17
 check-type-requires : tie.Need-check-type-requires Inv-loop μ-loop
 check-type-requires c κs = search needs
 
--- src/types.rt:44:17
 returns : tie.Need-returns Inv-loop μ-loop
 returns c =
     let a = c .before .before .before .before .before .before .before .args in
     let l = c .before .before .before .before in
     type-failed (a .pointer) (a .adds) (a .mem .now) (l .loop-test .taken) (c .before .before .before .flag .ensures) (l .before .loop .inv) (c .before .before .if1 .taken) (c .before .check-type .ensures) (c .if2 .taken)
 
--- src/types.rt:47:9
 add-i : tie.Need-add-i Inv-loop μ-loop
 add-i c = search needs
 
--- src/types.rt:40:5
 loop-less : tie.Need-loop-less Inv-loop μ-loop
 loop-less c = search needs
 
--- src/types.rt:40:5
 loop-again : tie.Need-loop-again Inv-loop μ-loop
 loop-again c =
     let a = c .before .before .before .before .before .args in
@@ -57,7 +46,6 @@ loop-again c =
     (λ w. type-skipped (a .pointer) (a .adds) (a .mem .now) (l .loop-test .taken) f (l .before .loop .inv) (w .left))
     (c .if1 .came)
 
--- src/types.rt:36:1
 returns-2 : tie.Need-returns-2 Inv-loop μ-loop
 returns-2 c =
     let a = c .before .before .before .args in
