@@ -1,0 +1,3 @@
+pub mod GuestLaws
+pub mod CheckLaws
+pub mod RangeLaws
