@@ -1,3 +1,5 @@
+use native.Mathlib.Omega.{arith}
+use Rattle.walks.proofs.LaunchLaws.{copied}
 use borrow.Author.Needs.{needs}
 use Rattle.walks.proofs.copy_launch.Statement.{statement}
 use Rattle.walks.proofs.copy_launch.Tie as tie
@@ -48,7 +50,15 @@ same-length c = search needs
 
 -- src/lib.rt:74:1
 returns : tie.Need-returns
-returns c = ?
+returns c =
+    let read = c .before .before .before .before in
+    let store = read .before .before .before .before .before in
+    let start = store .before .before .before .before .before .before in
+    record {
+      ends =
+          copied (start .args .base) (start .args .from) (start .args .i) (start .pre .input) (store .before .before .before .before .context-at .ensures) (store .before .before .read-context .ensures) (store .store-context .ensures) (read .before .index .ensures) (read .read-byte .ensures) (c .before .before .launch .ensures);
+      byte = omega arith;
+    }
 
 pub copy-launch-spec : {M : Type 1} → statement M
 copy-launch-spec =

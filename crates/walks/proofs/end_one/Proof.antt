@@ -12,7 +12,7 @@ context-at-requires c κs = search needs
 
 -- src/lib.rt:69:5
 terminate-requires : tie.Need-terminate-requires
-terminate-requires c κs = ?
+terminate-requires c κs = rw (c .before .context-at .ensures) (c .before .before .before .pre .1)
 
 -- src/lib.rt:63:1
 same-length : tie.Need-same-length
@@ -20,7 +20,7 @@ same-length c = search needs
 
 -- src/lib.rt:63:1
 returns : tie.Need-returns
-returns c = ?
+returns c = rw (← c .before .before .before .before .context-at .ensures) (c .before .before .terminate .ensures)
 
 pub end-one-spec : {M : Type 1} → statement M
 end-one-spec = tie.close (tie.spec context-at-requires terminate-requires same-length returns)
