@@ -71,10 +71,6 @@ pub record AddsAll (id P base : ℕ) (is : List ℕ) (t : Table) (m : Mem) (r : 
 abbrev pub AllRooms : Table → ℕ → Type 0
 AllRooms t len = (id : ℕ) → 1 ≤ id → id ≤ 16 → Rooms t id (slotOf t id .base) 1 len
 
--- the slot's endpoints are terminated and the slot is freed: what is left of it is the table
-unfoldable pub freed : ℕ → Table → Prog Table
-freed id t = bind (freeing id t) λ w. done (w .table)
-
 -- each slot was freed, ascending
 pub record FreesAll (t : Table) (m : Mem) (r : Freed) (m′ : Mem) : Type 0 where
   pub ends : Ends (each (count 16 1) (λ id u. bind (freeing id u) λ w. done (w .table)) t) m 0 (r .table) m′ (r .stored)

@@ -43,9 +43,9 @@ pub struct Freed {
 
 // ---- one endpoint
 
-// The index of the context of endpoint i.
+// The index of block i of the contexts at `base`: in a device context that is endpoint i's.
 fn context_at(base: u64, i: u64) -> usize
-    requires { ⌜ i ≤ 31 ⌝ }
+    requires { ⌜ i ≤ 32 ⌝ }
     ensures { λ r. ⌜ r ≡ base ⊕ 32 * i ⌝ }
 {
     guest::address::index(guest::address::plus(base, 32 * i))
@@ -111,6 +111,113 @@ pub fn terminate_from(t: Table, mem: &mut [u8], id: u64, base: u64, lo: u64) -> 
     Ended {
         table: u,
         terminated,
+        stored,
+    }
+}
+
+// The endpoints of slot id past the first whose drop flag is set are terminated, ascending.
+pub fn terminate_flagged(t: Table, mem: &mut [u8], id: u64, base: u64, drops: u32) -> Ended
+    requires { ⌜ (1 ≤ id) × (id ≤ 16) ⌝ }
+    requires { ⌜ Rooms t id base 2 (length (now mem)) ⌝ }
+    ensures { λ r. ⌜ TerminatesAll id base (setBits 30 2 drops) 30 t (now (mem .entry)) r (now (mem .exit)) ⌝ }
+{
+    let mut u = t;
+    let mut terminated: u64 = 0;
+    let mut stored: u64 = 0;
+    let mut i: u64 = 2;
+    while i < 32 {
+        if guest::bits::flag(drops, i as u32) {
+            let k = ((id - 1) * 31 + (i - 1)) as usize;
+            let e = u.endpoints[k];
+            let r = end_one(e, mem, base, i);
+            let dropped = r.endpoint;
+            u.endpoints[k] = dropped;
+            terminated = marked(terminated, i, r.stored);
+            stored += r.stored;
+        }
+        i += 1;
+    }
+    Ended {
+        table: u,
+        terminated,
+        stored,
+    }
+}
+
+// The endpoints of slot id past the first whose add flag is set are copied from the input context at `pointer` and
+// launched, ascending. One that is enabled is replaced.
+pub fn add_flagged(
+    t: Table,
+    mem: &mut [u8],
+    id: u64,
+    pointer: u64,
+    base: u64,
+    adds: u32,
+) -> Added
+    requires { ⌜ (1 ≤ id) × (id ≤ 16) ⌝ }
+    requires { ⌜ Spaces pointer base adds (length (now mem)) ⌝ }
+    ensures { λ r. ⌜ AddsAll id pointer base (setBits 30 2 adds) t (now (mem .entry)) r (now (mem .exit)) ⌝ }
+{
+    let mut u = t;
+    let mut launched: u64 = 0;
+    let mut port: u64 = 0;
+    let mut stored: u64 = 0;
+    let mut i: u64 = 2;
+    while i < 32 {
+        if guest::bits::flag(adds, i as u32) {
+            let from = context_at(pointer, i + 1);
+            let r = copy_launch(mem, base, from, i);
+            let k = ((id - 1) * 31 + (i - 1)) as usize;
+            let added = r.endpoint;
+            u.endpoints[k] = added;
+            launched = marked(launched, i, 1);
+            port = r.port;
+            stored += 33;
+        }
+        i += 1;
+    }
+    Added {
+        table: u,
+        launched,
+        port,
+        stored,
+    }
+}
+
+// ---- all slots
+
+const FREE: Slot = Slot {
+    state: SlotState::Free,
+    base: 0,
+    entry: 0,
+};
+
+// Every slot's endpoints are terminated and the slot is freed, ascending. The registers are left as they are.
+pub fn free_all(t: Table, mem: &mut [u8]) -> Freed
+    requires { ⌜ AllRooms t (length (now mem)) ⌝ }
+    ensures { λ r. ⌜ FreesAll t (now (mem .entry)) r (now (mem .exit)) ⌝ }
+{
+    let mut u = t;
+    let mut stored: u64 = 0;
+    let mut id: u64 = 1;
+    while id <= 16 {
+        let slot = u.slots[(id - 1) as usize];
+        let base = slot.base;
+        let mut i: u64 = 1;
+        while i < 32 {
+            let k = ((id - 1) * 31 + (i - 1)) as usize;
+            let e = u.endpoints[k];
+            let r = end_one(e, mem, base, i);
+            let ended = r.endpoint;
+            u.endpoints[k] = ended;
+            stored += r.stored;
+            i += 1;
+        }
+        u.slots[(id - 1) as usize] = FREE;
+        id += 1;
+    }
+    Freed {
+        table: u,
         stored,
     }
 }
