@@ -1,4 +1,5 @@
--- Laws of the scan: faults that are gathered by `|`, a slot's test from its own part and its records, loops of tests over counted numbers.
+-- Laws of the scan: faults that are gathered by `|`, a slot's test from its own part and its records, loops of tests over counted
+-- numbers, the head of a call.
 -- Assumes nothing.
 use mathlib.Core.Path.{_≡_, refl, sym, ap, _∙_}
 use mathlib.Core.Bool.{Bool, true, false, not, cond, _&&_}
@@ -14,9 +15,10 @@ use Rattle.guest.specs.Prog.{all}
 use Rattle.guest.proofs.LoopLaws.{Testing, testing-begins, testing-goes, testing-ends, testing-fails}
 use Rattle.guest.proofs.ListLaws.{count-none, count-first}
 use Rattle.guest.proofs.RunLaws.{is-inside, is-outside}
-use Rattle.definition.specs.Table.{endpointNumber, isDisabled, disabled, endpointOf, slotOf, isZero, usedOk, noEndpoint, slotOkIn, slotOk, wellFormed}
-use Rattle.scan.specs.Types.{Endpoint, SlotState, Free, Enabled, Default, Addressed, Configured, Slot, Table}
+use Rattle.definition.specs.Table.{endpointNumber, isDisabled, disabled, endpointOf, slotOf, isZero, usedOk, noEndpoint, slotOkIn, slotOk, wellFormed, lookup}
+use Rattle.scan.specs.Types.{Endpoint, SlotState, Free, Enabled, Default, Addressed, Configured, Slot, Table, Lookup, Nothing}
 use Rattle.scan.specs.Records.{hasContexts, inUse, ownIn, ownOk, recordOk, clear}
+use Rattle.scan.specs.Heads.{codeFor, headFor, foundIn}
 
 -- ---- one record
 
@@ -125,3 +127,20 @@ module _ (t : Table) where
   pub slots-decide : {good : Bool} → t .limit ≤ 16 → t .length ≤ 1073741824 → all (count 16 1) (slotOk t) ≡ good → good ≡ wellFormed t
   unfolding wellFormed
   slots-decide h k e = rw (le-leb (t .limit) 16 h, le-leb (t .length) 1073741824 k) (sym e)
+
+-- ---- the head of a call
+
+pub found-is : (t : Table) (id : ℕ) → foundIn (t .slots) id ≡ lookup t id
+unfolding foundIn lookup slotOf
+found-is t id = refl
+
+module _ (t : Table) (len id : ℕ) {code : ℕ} (e : code ≡ codeFor t len) where
+  -- a refusal
+  pub head-no : (code ≡ 0 → ⊥) → record { code = code; found = Nothing } ≡ headFor t len id
+  unfolding headFor
+  head-no n = rw (← e, ne-eqb code 0 n)
+
+  -- code 0 and what the look found
+  pub head-yes : {l : Lookup} → code ≡ 0 → l ≡ lookup t id → record { code = 0; found = l } ≡ headFor t len id
+  unfolding headFor
+  head-yes z f = rw (← e, z, f)

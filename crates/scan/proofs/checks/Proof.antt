@@ -1,3 +1,4 @@
+use Rattle.scan.specs.Heads.{codeFor}
 use borrow.Author.Needs.{needs}
 use Rattle.scan.proofs.checks.Statement.{statement}
 use Rattle.scan.proofs.checks.Tie as tie
@@ -16,7 +17,8 @@ judge-requires c κs = search needs
 
 -- src/lib.rt:104:1
 returns : tie.Need-returns
-returns c = ?
+unfolding codeFor
+returns c =     rw (c .judge .ensures, c .before .well-formed .ensures)
 
 pub checks-spec : {M : Type 1} → statement M
 checks-spec = tie.close (tie.spec well-formed-requires judge-requires returns)

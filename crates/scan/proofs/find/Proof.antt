@@ -1,3 +1,7 @@
+use mathlib.Core.Path.{sym, _∙_}
+use native.Mathlib.Omega.{arith}
+use borrow.Author.Tests.{le-leb, lt-leb}
+use Rattle.scan.specs.Heads.{foundIn}
 use borrow.Author.Needs.{needs}
 use Rattle.scan.proofs.find.Statement.{statement}
 use Rattle.scan.proofs.find.Tie as tie
@@ -7,11 +11,15 @@ use Rattle.scan.proofs.records.is_free.Reads as is-free-reads
 
 -- src/lib.rt:68:9
 returns : tie.Need-returns
-returns c = ?
+unfolding foundIn
+returns c =     rw (lt-leb 1 (c .before .args .id) (omega arith))
 
 -- src/lib.rt:71:9
 returns-2 : tie.Need-returns-2
-returns-2 c = ?
+unfolding foundIn
+returns-2 c =
+    let a = c .before .before .args in
+    rw (le-leb 1 (a .id) (omega arith), lt-leb (a .id) 16 (c .if2 .taken))
 
 -- src/lib.rt:73:14
 sub-j : tie.Need-sub-j
@@ -31,11 +39,19 @@ is-free-requires c κs = search needs
 
 -- src/lib.rt:77:9
 returns-3 : tie.Need-returns-3
-returns-3 c = ?
+unfolding foundIn
+returns-3 c =
+    let d = c .before .before .before in
+    let a = d .before .before .args in
+    simp (le-leb 1 (a .id) (omega arith), le-leb (a .id) 16 (d .if2 .left), sym (c .before .is-free .ensures) ∙ c .if3 .taken)
 
 -- src/lib.rt:64:1
 returns-4 : tie.Need-returns-4
-returns-4 c = ?
+unfolding foundIn
+returns-4 c =
+    let d = c .before .before .before in
+    let a = d .before .before .args in
+    simp (le-leb 1 (a .id) (omega arith), le-leb (a .id) 16 (d .if2 .left), sym (c .before .is-free .ensures) ∙ c .if3 .left)
 
 pub find-spec : {M : Type 1} → statement M
 find-spec =

@@ -1,3 +1,5 @@
+use mathlib.Core.Path.{_∙_}
+use Rattle.scan.proofs.ScanLaws.{found-is}
 use borrow.Author.Needs.{needs}
 use Rattle.scan.proofs.lookup.Statement.{statement}
 use Rattle.scan.proofs.lookup.Tie as tie
@@ -11,7 +13,7 @@ find-requires c κs = search needs
 
 -- src/lib.rt:83:1
 returns : tie.Need-returns
-returns c = ?
+returns c = let a = c .before .before .args in c .find .ensures ∙ found-is (a .t) (a .id)
 
 pub lookup-spec : {M : Type 1} → statement M
 lookup-spec = tie.close (tie.spec find-requires returns)
