@@ -7,7 +7,7 @@ use Prim.Native.Nat.{ℕ, _+_, _-_, _*_, _≤_, _<_}
 use native.Mathlib.Nat.{add-zero}
 use native.Mathlib.Omega.{arith}
 use borrow.Author.Tests.{leb-true, leb-false, le-leb, lt-leb, eq-eqb, ne-eqb, eqb-true, eqb-false}
-use lib.Bits.{bitOr, or-add-and, and-le-r, or-zero-l}
+use lib.Bits.{bitOr, or-add-and, and-le-r}
 use lib.Dec.{leb, eqb}
 use lib.ListN.{getD}
 use Rattle.guest.specs.Bytes.{inside, count}
@@ -31,11 +31,11 @@ room len a n h = by (leb a (len - n)) refl
     by false e = let k = leb-false a (len - n) e in sym (is-outside len a n (omega arith))
 
 -- numbers joined by `|` are 0 where both are
-pub or-zero : (a b : ℕ) → eqb (bitOr a b) 0 ≡ (eqb a 0 && eqb b 0)
+or-zero : (a b : ℕ) → eqb (bitOr a b) 0 ≡ (eqb a 0 && eqb b 0)
 or-zero a b = by (eqb a 0) refl
   where
     by : (q : Bool) → eqb a 0 ≡ q → eqb (bitOr a b) 0 ≡ (q && eqb b 0)
-    by true e = rw (eqb-true a 0 e, or-zero-l)
+    by true e = rw (eqb-true a 0 e)
     by false e =
         let n : a ≡ 0 → ⊥ = eqb-false a 0 e in
         let s = or-add-and a b in
@@ -49,7 +49,7 @@ swap true false false y = refl
 swap false b x y = refl
 
 -- faults joined to those found so far
-pub clear-or : (a b x y : ℕ) → clear (bitOr a x) (bitOr b y) ≡ (clear a b && clear x y)
+clear-or : (a b x y : ℕ) → clear (bitOr a x) (bitOr b y) ≡ (clear a b && clear x y)
 clear-or a b x y = rw (or-zero a x, or-zero b y) (swap (eqb a 0) (eqb b 0) (eqb x 0) (eqb y 0))
 
 -- a record's state and cycle as numbers, and its pointer
@@ -62,40 +62,9 @@ clear-record e {n} {b} p q =
     by true = refl
     by false = refl
 
--- ---- one slot
+-- ---- a loop of tests
 
--- endpoint 1's record, where the code reads it
-abbrev pub firstOf : Table → ℕ → Endpoint
-firstOf t id = getD (t .endpoints) ((id - 1) * 31) disabled
-
-first-is : (t : Table) (id : ℕ) → endpointOf t id 1 ≡ firstOf t id
-unfolding endpointOf
-first-is t id = ap (λ (k : ℕ). getD (t .endpoints) k disabled) (add-zero ((id - 1) * 31))
-
-slot-in : (st : SlotState) (s : Slot) (t : Table) (id : ℕ)
-    → (ownIn st s (endpointOf t id 1) (t .length) && all (count 31 1) (λ i. recordOk (hasContexts st) (t .length) (s .base) i (endpointOf t id i)))
-    ≡ slotOkIn st s t id
-unfolding inUse recordOk usedOk noEndpoint
-slot-in Free s t id = refl
-slot-in Enabled s t id = refl
-slot-in Default s t id = refl
-slot-in Addressed s t id = refl
-slot-in Configured s t id = refl
-
--- the slot's own part fails
-pub slot-bad : (t : Table) (id : ℕ) → ownOk (slotOf t id) (firstOf t id) (t .length) ≡ false → slotOk t id ≡ false
-unfolding ownOk slotOk
-slot-bad t id h = sym (slot-in (slotOf t id .state) (slotOf t id) t id) ∙ rw (first-is t id, h)
-
--- it passes: the records decide
-pub slot-is : (t : Table) (id : ℕ) {used good : Bool} → used ≡ hasContexts (slotOf t id .state) → ownOk (slotOf t id) (firstOf t id) (t .length) ≡ true
-    → good ≡ all (count 31 1) (λ i. recordOk used (t .length) (slotOf t id .base) i (endpointOf t id i)) → slotOk t id ≡ good
-unfolding ownOk slotOk
-slot-is t id u h r = sym (slot-in (slotOf t id .state) (slotOf t id) t id) ∙ rw (first-is t id, h) (sym (r ∙ rw u))
-
--- ---- the table
-
--- a loop of tests from 1 up to `end`, at i: `good` is what was found so far
+-- from 1 up to `end`, at i: `good` is what was found so far
 pub record Scan (f : ℕ → Bool) (end i : ℕ) (good : Bool) : Type 0 where
   pub low : 1 ≤ i
   pub high : i ≤ end
@@ -113,6 +82,48 @@ scan-ends f {end} {i} s h = testing-ends f (s .tests) (count-none (end - i) i (o
 
 pub scan-fails : (f : ℕ → Bool) {end i : ℕ} → Scan f end i true → i < end → f i ≡ false → all (count (end - 1) 1) f ≡ false
 scan-fails f {end} {i} s h e = testing-fails f (s .tests) (count-first end i h) e
+
+-- a turn whose faults are joined to those found so far
+pub scan-gathers : (f : ℕ → Bool) {end i : ℕ} (a b x y : ℕ) → Scan f end i (clear a b) → i < end → clear x y ≡ f i → Scan f end (i + 1) (clear (bitOr a x) (bitOr b y))
+scan-gathers f a b x y s h e = scan-goes f s h _ (clear-or a b x y ∙ ap (λ (q : Bool). clear a b && q) e)
+
+-- ---- one slot
+
+-- the test of endpoint i's record, in a slot that has contexts from `base` on or has none
+abbrev pub testOf : Bool → ℕ → ℕ → Table → ℕ → ℕ → Bool
+testOf contexts length base t id i = recordOk contexts length base i (endpointOf t id i)
+
+-- endpoint 1's record, where the code reads it
+abbrev pub firstOf : Table → ℕ → Endpoint
+firstOf t id = getD (t .endpoints) ((id - 1) * 31) disabled
+
+first-is : (t : Table) (id : ℕ) → endpointOf t id 1 ≡ firstOf t id
+unfolding endpointOf
+first-is t id = ap (λ (k : ℕ). getD (t .endpoints) k disabled) (add-zero ((id - 1) * 31))
+
+slot-in : (st : SlotState) (s : Slot) (t : Table) (id : ℕ)
+    → (ownIn st s (endpointOf t id 1) (t .length) && all (count 31 1) (testOf (hasContexts st) (t .length) (s .base) t id))
+    ≡ slotOkIn st s t id
+unfolding inUse recordOk usedOk noEndpoint
+slot-in Free s t id = refl
+slot-in Enabled s t id = refl
+slot-in Default s t id = refl
+slot-in Addressed s t id = refl
+slot-in Configured s t id = refl
+
+-- the slot's own part fails
+pub slot-bad : (t : Table) (id : ℕ) → ownOk (slotOf t id) (firstOf t id) (t .length) ≡ false → slotOk t id ≡ false
+unfolding ownOk slotOk
+slot-bad t id h = sym (slot-in (slotOf t id .state) (slotOf t id) t id) ∙ rw (first-is t id, h)
+
+-- it passes: the faults gathered from the records decide
+pub slot-is : (t : Table) (id : ℕ) {contexts : Bool} {i : ℕ} (a b : ℕ) → contexts ≡ hasContexts (slotOf t id .state) → ownOk (slotOf t id) (firstOf t id) (t .length) ≡ true
+    → Scan (testOf contexts (t .length) (slotOf t id .base) t id) 32 i (clear a b) → 32 ≤ i → slotOk t id ≡ eqb (bitOr a b) 0
+unfolding ownOk slotOk
+slot-is t id a b u h s l =
+    sym (slot-in (slotOf t id .state) (slotOf t id) t id) ∙ rw (first-is t id, h) (sym (or-zero a b ∙ scan-ends _ s l ∙ rw u))
+
+-- ---- the table
 
 module _ (t : Table) where
   pub over-limit : 16 < t .limit → false ≡ wellFormed t

@@ -11,12 +11,12 @@ use Rattle.definition.specs.Commands.{answer}
 use Rattle.scan.specs.declared.Head.{Head}
 
 -- 198, 194, or 0 where neither is due
-unfoldable pub judged : Bool → ℕ → ℕ → ℕ
-judged wf length len = cond wf (cond (eqb length len) 0 194) 198
+abbrev pub judged : Bool → Bool → ℕ
+judged wellFormed sameLength = cond wellFormed (cond sameLength 0 194) 198
 
 -- .. of a call that lends len bytes with the table t
 unfoldable pub codeFor : Table → ℕ → ℕ
-codeFor t len = judged (wellFormed t) (t .length) len
+codeFor t len = judged (wellFormed t) (eqb (t .length) len)
 
 -- that code; and where it is 0 what the look for the slot finds
 unfoldable pub headFor : Table → ℕ → ℕ → Head

@@ -8,7 +8,7 @@ use definition::Outcome;
 use definition::Slot;
 use definition::Table;
 ghost use mathlib.Core.Path.{_≡_};
-ghost use mathlib.Core.Bool.{Bool};
+ghost use lib.Dec.{eqb};
 ghost use Rattle.definition.specs.Table as tables;
 ghost use Rattle.scan.specs.Heads.{judged, codeFor, headFor, foundIn, refusal};
 
@@ -89,7 +89,7 @@ pub fn lookup(t: Table, id: u64) -> Lookup
 
 // 198 for a malformed table, then 194 for a memory of another length than the table's, else 0.
 fn judge(formed: bool, length: u64, len: u64) -> u64
-    ensures { λ r. ⌜ r ≡ judged formed length len ⌝ }
+    ensures { λ r. ⌜ r ≡ judged formed (eqb length len) ⌝ }
 {
     if !formed {
         return 198;

@@ -6,7 +6,7 @@ use borrow.Author.Needs.{needs}
 use borrow.Author.Tests.{not-true, not-false, eq-eqb, ne-eqb}
 use Rattle.definition.specs.Table.{endpointOf, slotOf, slotOk}
 use Rattle.scan.specs.Records.{recordOk, clear}
-use Rattle.scan.proofs.ScanLaws.{or-zero, clear-or, slot-bad, slot-is, Scan, scan-begins, scan-goes, scan-ends, scan-fails, over-limit, over-length, slots-decide}
+use Rattle.scan.proofs.ScanLaws.{scan-gathers, testOf, slot-bad, slot-is, Scan, scan-begins, scan-goes, scan-ends, scan-fails, over-limit, over-length, slots-decide}
 use Rattle.scan.proofs.well_formed.Statement.{statement}
 use Rattle.scan.proofs.well_formed.Tie as tie
 use Rattle.scan.proofs.well_formed.Reads as reads
@@ -16,7 +16,7 @@ use Rattle.scan.proofs.records.has_contexts.Reads as has-contexts-reads
 use Rattle.scan.proofs.records.slot_ok.Reads as slot-ok-reads
 
 abbrev Inv-loop2 : tie.InvT-loop2
-Inv-loop2 t length id j at used base flags₀ pointers₀ i₀ flags pointers i = Scan (λ i. recordOk used length base i (endpointOf t id i)) 32 i (clear flags pointers)
+Inv-loop2 t length id j at used base flags₀ pointers₀ i₀ flags pointers i = Scan (testOf used length base t id) 32 i (clear flags pointers)
 
 abbrev μ-loop2 : tie.MeasureT-loop2
 μ-loop2 t length id j at used base flags₀ pointers₀ i₀ flags pointers i = 32 - i
@@ -131,8 +131,7 @@ unfolding endpointOf
 loop2-again c =
     let g = c .before .before .before .before .before in
     let w = c .before .before .faults-of in
-    scan-goes _ (g .loop2 .inv) (c .before .before .before .before .loop2-test .taken) _
-    (clear-or (g .loop2 .flags) (g .loop2 .pointers) (w .result .flags) (w .result .pointer) ∙ ap (λ (b : Bool). clear (g .loop2 .flags) (g .loop2 .pointers) && b) (w .ensures))
+    scan-gathers _ (g .loop2 .flags) (g .loop2 .pointers) (w .result .flags) (w .result .pointer) (g .loop2 .inv) (c .before .before .before .before .loop2-test .taken) (w .ensures)
 
 -- src/lib.rt:56:13
 returns-4 : tie.Need-returns-4 Inv-loop2 μ-loop2 Inv-loop μ-loop
@@ -144,8 +143,8 @@ returns-4 c =
     let t = l .before .before .before .args .t1 in
     slots-decide t (l .before .before .if1 .left) (l .before .if2 .left)
     (scan-fails (slotOk t) (l .loop .inv) (o .before .before .before .loop-test .taken)
-    (slot-is t (l .loop .id) (g .before .has-contexts .ensures) (sym (o .slot-ok .ensures) ∙ not-false (o .slot-ok .result) (g .before .before .if3 .left)) (scan-ends _ (g .loop2 .inv) (c .before .loop2-test .left))
-    ∙ sym (or-zero (g .loop2 .flags) (g .loop2 .pointers)) ∙ ne-eqb _ _ (c .if4 .taken)))
+    (slot-is t (l .loop .id) (g .loop2 .flags) (g .loop2 .pointers) (g .before .has-contexts .ensures) (sym (o .slot-ok .ensures) ∙ not-false (o .slot-ok .result) (g .before .before .if3 .left)) (g .loop2 .inv) (c .before .loop2-test .left)
+    ∙ ne-eqb _ _ (c .if4 .taken)))
 
 -- src/lib.rt:58:9
 add-id : tie.Need-add-id Inv-loop2 μ-loop2 Inv-loop μ-loop
@@ -164,8 +163,8 @@ loop-again c =
     let l = o .before .before .before .before in
     let t = l .before .before .before .args .t1 in
     scan-goes (slotOk t) (l .loop .inv) (o .before .before .before .loop-test .taken) true
-    (sym (slot-is t (l .loop .id) (g .before .has-contexts .ensures) (sym (o .slot-ok .ensures) ∙ not-false (o .slot-ok .result) (g .before .before .if3 .left)) (scan-ends _ (g .loop2 .inv) (c .before .loop2-test .left))
-    ∙ sym (or-zero (g .loop2 .flags) (g .loop2 .pointers)) ∙ eq-eqb _ _ (c .if4 .left)))
+    (sym (slot-is t (l .loop .id) (g .loop2 .flags) (g .loop2 .pointers) (g .before .has-contexts .ensures) (sym (o .slot-ok .ensures) ∙ not-false (o .slot-ok .result) (g .before .before .if3 .left)) (g .loop2 .inv) (c .before .loop2-test .left)
+    ∙ eq-eqb _ _ (c .if4 .left)))
 
 -- src/lib.rt:22:1
 returns-5 : tie.Need-returns-5 Inv-loop2 μ-loop2 Inv-loop μ-loop
