@@ -1,0 +1,157 @@
+-- Laws of the scan: faults that are gathered by `|`, a slot's test from its own part and its records, loops of tests over counted
+-- numbers, the head of a call.
+-- Assumes nothing.
+use mathlib.Core.Path.{_≡_, refl, sym, ap, _∙_}
+use mathlib.Core.Bool.{Bool, true, false, not, cond, _&&_}
+use Prim.Native.Nat.{ℕ, _+_, _-_, _*_, _≤_, _<_}
+use native.Mathlib.Nat.{add-zero}
+use native.Mathlib.Omega.{arith}
+use borrow.Author.Tests.{leb-true, leb-false, le-leb, lt-leb, eq-eqb, ne-eqb, eqb-true, eqb-false}
+use lib.Bits.{bitOr, or-add-and, and-le-r}
+use lib.Dec.{leb, eqb}
+use lib.ListN.{getD}
+use Rattle.guest.specs.Bytes.{inside, count}
+use Rattle.guest.specs.Prog.{all}
+use Rattle.guest.proofs.LoopLaws.{Testing, testing-begins, testing-goes, testing-ends, testing-fails}
+use Rattle.guest.proofs.ListLaws.{count-none, count-first}
+use Rattle.guest.proofs.RunLaws.{is-inside, is-outside}
+use Rattle.definition.specs.Table.{endpointNumber, isDisabled, disabled, endpointOf, slotOf, isZero, usedOk, noEndpoint, slotOkIn, slotOk, wellFormed, lookup}
+use Rattle.scan.specs.Types.{Endpoint, SlotState, Free, Enabled, Default, Addressed, Configured, Slot, Table, Lookup, Nothing}
+use Rattle.scan.specs.Records.{hasContexts, inUse, ownIn, ownOk, recordOk, clear}
+use Rattle.scan.specs.Heads.{codeFor, headFor, foundIn}
+
+-- ---- one record
+
+-- the code's test of a range, which takes no sum that wraps
+pub room : (len a n : ℕ) → n ≤ len → leb a (len - n) ≡ inside len a n
+room len a n h = by (leb a (len - n)) refl
+  where
+    by : (b : Bool) → leb a (len - n) ≡ b → b ≡ inside len a n
+    by true e = let k = leb-true a (len - n) e in sym (is-inside len a n (omega arith))
+    by false e = let k = leb-false a (len - n) e in sym (is-outside len a n (omega arith))
+
+-- numbers joined by `|` are 0 where both are
+or-zero : (a b : ℕ) → eqb (bitOr a b) 0 ≡ (eqb a 0 && eqb b 0)
+or-zero a b = by (eqb a 0) refl
+  where
+    by : (q : Bool) → eqb a 0 ≡ q → eqb (bitOr a b) 0 ≡ (q && eqb b 0)
+    by true e = rw (eqb-true a 0 e)
+    by false e =
+        let n : a ≡ 0 → ⊥ = eqb-false a 0 e in
+        let s = or-add-and a b in
+        let l = and-le-r a b in
+        ne-eqb (bitOr a b) 0 (λ (z : bitOr a b ≡ 0). n (omega arith))
+
+swap : (a b x y : Bool) → ((a && x) && (b && y)) ≡ ((a && b) && (x && y))
+swap true true x y = refl
+swap true false true y = refl
+swap true false false y = refl
+swap false b x y = refl
+
+-- faults joined to those found so far
+clear-or : (a b x y : ℕ) → clear (bitOr a x) (bitOr b y) ≡ (clear a b && clear x y)
+clear-or a b x y = rw (or-zero a x, or-zero b y) (swap (eqb a 0) (eqb b 0) (eqb x 0) (eqb y 0))
+
+-- a record's state and cycle as numbers, and its pointer
+pub clear-record : (e : Endpoint) {n b : ℕ} → n ≡ endpointNumber (e .state) → b ≡ cond (e .cycle) 1 0 → clear (bitOr n b) (e .pointer) ≡ isZero e
+unfolding isZero
+clear-record e {n} {b} p q =
+    rw (or-zero n b, p, q) (ap (λ (x : Bool). (isDisabled e && x) && eqb (e .pointer) 0) (by (e .cycle)))
+  where
+    by : (cycle : Bool) → eqb (cond cycle 1 0) 0 ≡ not cycle
+    by true = refl
+    by false = refl
+
+-- ---- a loop of tests
+
+-- from 1 up to `end`, at i: `good` is what was found so far
+pub record Scan (f : ℕ → Bool) (end i : ℕ) (good : Bool) : Type 0 where
+  pub low : 1 ≤ i
+  pub high : i ≤ end
+  pub tests : Testing f (count (end - 1) 1) (count (end - i) i) good
+
+pub scan-begins : (f : ℕ → Bool) (end : ℕ) → 1 ≤ end → Scan f end 1 true
+scan-begins f end h = record { low = omega arith; high = h; tests = testing-begins f (count (end - 1) 1) }
+
+pub scan-goes : (f : ℕ → Bool) {end i : ℕ} {good : Bool} → Scan f end i good → i < end → (now : Bool) → now ≡ (good && f i) → Scan f end (i + 1) now
+scan-goes f {end} {i} s h now d =
+    record { low = omega (arith, s .low); high = omega arith; tests = testing-goes f (s .tests) (count-first end i h) now d }
+
+pub scan-ends : (f : ℕ → Bool) {end i : ℕ} {good : Bool} → Scan f end i good → end ≤ i → good ≡ all (count (end - 1) 1) f
+scan-ends f {end} {i} s h = testing-ends f (s .tests) (count-none (end - i) i (omega arith))
+
+pub scan-fails : (f : ℕ → Bool) {end i : ℕ} → Scan f end i true → i < end → f i ≡ false → all (count (end - 1) 1) f ≡ false
+scan-fails f {end} {i} s h e = testing-fails f (s .tests) (count-first end i h) e
+
+-- a turn whose faults are joined to those found so far
+pub scan-gathers : (f : ℕ → Bool) {end i : ℕ} (a b x y : ℕ) → Scan f end i (clear a b) → i < end → clear x y ≡ f i → Scan f end (i + 1) (clear (bitOr a x) (bitOr b y))
+scan-gathers f a b x y s h e = scan-goes f s h _ (clear-or a b x y ∙ ap (λ (q : Bool). clear a b && q) e)
+
+-- ---- one slot
+
+-- the test of endpoint i's record, in a slot that has contexts from `base` on or has none
+abbrev pub testOf : Bool → ℕ → ℕ → Table → ℕ → ℕ → Bool
+testOf contexts length base t id i = recordOk contexts length base i (endpointOf t id i)
+
+-- endpoint 1's record, where the code reads it
+abbrev pub firstOf : Table → ℕ → Endpoint
+firstOf t id = getD (t .endpoints) ((id - 1) * 31) disabled
+
+first-is : (t : Table) (id : ℕ) → endpointOf t id 1 ≡ firstOf t id
+unfolding endpointOf
+first-is t id = ap (λ (k : ℕ). getD (t .endpoints) k disabled) (add-zero ((id - 1) * 31))
+
+slot-in : (st : SlotState) (s : Slot) (t : Table) (id : ℕ)
+    → (ownIn st s (endpointOf t id 1) (t .length) && all (count 31 1) (testOf (hasContexts st) (t .length) (s .base) t id))
+    ≡ slotOkIn st s t id
+unfolding inUse recordOk usedOk noEndpoint
+slot-in Free s t id = refl
+slot-in Enabled s t id = refl
+slot-in Default s t id = refl
+slot-in Addressed s t id = refl
+slot-in Configured s t id = refl
+
+-- the slot's own part fails
+pub slot-bad : (t : Table) (id : ℕ) → ownOk (slotOf t id) (firstOf t id) (t .length) ≡ false → slotOk t id ≡ false
+unfolding ownOk slotOk
+slot-bad t id h = sym (slot-in (slotOf t id .state) (slotOf t id) t id) ∙ rw (first-is t id, h)
+
+-- it passes: the faults gathered from the records decide
+pub slot-is : (t : Table) (id : ℕ) {contexts : Bool} {i : ℕ} (a b : ℕ) → contexts ≡ hasContexts (slotOf t id .state) → ownOk (slotOf t id) (firstOf t id) (t .length) ≡ true
+    → Scan (testOf contexts (t .length) (slotOf t id .base) t id) 32 i (clear a b) → 32 ≤ i → slotOk t id ≡ eqb (bitOr a b) 0
+unfolding ownOk slotOk
+slot-is t id a b u h s l =
+    sym (slot-in (slotOf t id .state) (slotOf t id) t id) ∙ rw (first-is t id, h) (sym (or-zero a b ∙ scan-ends _ s l ∙ rw u))
+
+-- ---- the table
+
+module _ (t : Table) where
+  pub over-limit : 16 < t .limit → false ≡ wellFormed t
+  unfolding wellFormed
+  over-limit h = rw (lt-leb (t .limit) 16 h)
+
+  pub over-length : t .limit ≤ 16 → 1073741824 < t .length → false ≡ wellFormed t
+  unfolding wellFormed
+  over-length h k = rw (le-leb (t .limit) 16 h, lt-leb (t .length) 1073741824 k)
+
+  -- limit and length are in range: the slots decide
+  pub slots-decide : {good : Bool} → t .limit ≤ 16 → t .length ≤ 1073741824 → all (count 16 1) (slotOk t) ≡ good → good ≡ wellFormed t
+  unfolding wellFormed
+  slots-decide h k e = rw (le-leb (t .limit) 16 h, le-leb (t .length) 1073741824 k) (sym e)
+
+-- ---- the head of a call
+
+pub found-is : (t : Table) (id : ℕ) → foundIn (t .slots) id ≡ lookup t id
+unfolding foundIn lookup slotOf
+found-is t id = refl
+
+module _ (t : Table) (len id : ℕ) {code : ℕ} (e : code ≡ codeFor t len) where
+  -- a refusal
+  pub head-no : (code ≡ 0 → ⊥) → record { code = code; found = Nothing } ≡ headFor t len id
+  unfolding headFor
+  head-no n = rw (← e, ne-eqb code 0 n)
+
+  -- code 0 and what the look found
+  pub head-yes : {l : Lookup} → code ≡ 0 → l ≡ lookup t id → record { code = 0; found = l } ≡ headFor t len id
+  unfolding headFor
+  head-yes z f = rw (← e, z, f)

@@ -1,0 +1,35 @@
+-- One slot's record or one endpoint's, as the scan tests it: the definition's tests, the slot's own part apart from its endpoints' records.
+-- Assumes nothing.
+use mathlib.Core.Bool.{Bool, not, cond, _&&_}
+use Prim.Native.Nat.{ℕ}
+use lib.Dec.{eqb, ltb}
+use Rattle.guest.specs.Bytes.{inside}
+use Rattle.scan.specs.Types.{Endpoint, SlotState, Free, Enabled, Default, Addressed, Configured, Slot}
+use Rattle.definition.specs.Table.{slotNumber, isDisabled, isZero, endpointOk}
+
+-- a slot past Enabled has contexts
+abbrev pub hasContexts : SlotState → Bool
+hasContexts state = ltb 1 (slotNumber state)
+
+-- "any later state has endpoint 1, and the 64 bytes from base lie wholly in memory"
+unfoldable pub inUse : Slot → Endpoint → ℕ → Bool
+inUse s first len = not (isDisabled first) && inside len (s .base) 64
+
+-- the slot's own part, with its endpoint 1, by its state
+abbrev pub ownIn : SlotState → Slot → Endpoint → ℕ → Bool
+ownIn Free s first len = eqb (s .base) 0 && eqb (s .entry) 0
+ownIn Enabled s first len = eqb (s .base) 0
+ownIn Default s first len = inUse s first len
+ownIn Addressed s first len = inUse s first len
+ownIn Configured s first len = inUse s first len
+
+unfoldable pub ownOk : Slot → Endpoint → ℕ → Bool
+ownOk s first len = ownIn (s .state) s first len
+
+-- the record of endpoint i, in a slot that has contexts or has none
+unfoldable pub recordOk : Bool → ℕ → ℕ → ℕ → Endpoint → Bool
+recordOk contexts len base i e = cond contexts (endpointOk len base i e) (isZero e)
+
+-- two numbers in which nothing is wrong
+abbrev pub clear : ℕ → ℕ → Bool
+clear flags pointer = eqb flags 0 && eqb pointer 0

@@ -1,0 +1,144 @@
+// One slot's record or one endpoint's: whether it is in order.
+use definition::Endpoint;
+use definition::EndpointState;
+use definition::Slot;
+use definition::SlotState;
+ghost use mathlib.Core.Path.{_≡_};
+ghost use mathlib.Core.Bool.{Bool, cond};
+ghost use Prim.Native.Nat.{_≤_};
+ghost use lib.Dec.{eqb};
+ghost use Rattle.guest.specs.Bytes as bytes;
+ghost use Rattle.definition.specs.Table.{slotNumber, endpointNumber, isZero};
+ghost use Rattle.scan.specs.Records.{hasContexts, ownOk, inUse, recordOk, clear};
+
+// What is wrong with an endpoint's record: both numbers are 0 where nothing is.
+pub struct Faults {
+    pub flags: u64,
+    pub pointer: u64,
+}
+
+// The slot state's number: Free is 0.
+fn slot_number(state: SlotState) -> u64
+    ensures { λ r. ⌜ r ≡ slotNumber state ⌝ }
+{
+    match state {
+        SlotState::Free => 0,
+        SlotState::Enabled => 1,
+        SlotState::Default => 2,
+        SlotState::Addressed => 3,
+        SlotState::Configured => 4,
+    }
+}
+
+// The slot is free.
+pub fn is_free(state: SlotState) -> bool
+    ensures { λ r. ⌜ r ≡ eqb (slotNumber state) 0 ⌝ }
+{
+    slot_number(state) == 0
+}
+
+// The slot is past Enabled, and so has contexts.
+pub fn has_contexts(state: SlotState) -> bool
+    ensures { λ r. ⌜ r ≡ hasContexts state ⌝ }
+{
+    1 < slot_number(state)
+}
+
+// The endpoint state's number: Disabled is 0.
+fn endpoint_number(state: EndpointState) -> u64
+    ensures { λ r. ⌜ r ≡ endpointNumber state ⌝ }
+{
+    match state {
+        EndpointState::Disabled => 0,
+        EndpointState::Waiting => 1,
+        EndpointState::InFlight => 2,
+        EndpointState::Halted => 3,
+        EndpointState::Error => 4,
+        EndpointState::StoppedContinuable => 5,
+        EndpointState::Stopped => 6,
+    }
+}
+
+// A cycle as a number.
+fn bit(cycle: bool) -> u64
+    ensures { λ r. ⌜ r ≡ cond cycle 1 0 ⌝ }
+{
+    if cycle { 1 } else { 0 }
+}
+
+// The `count` bytes at an address lie wholly in a memory of this length.
+fn inside(length: u64, address: u64, count: u64) -> bool
+    ensures { λ r. ⌜ r ≡ bytes.inside length address count ⌝ }
+{
+    if count <= length {
+        address <= length - count
+    } else {
+        false
+    }
+}
+
+// A slot past Enabled has endpoint 1, and the 64 bytes from its base lie in memory.
+fn in_use(slot: Slot, first: Endpoint, length: u64) -> bool
+    ensures { λ r. ⌜ r ≡ inUse slot first length ⌝ }
+{
+    let state = first.state;
+    if endpoint_number(state) == 0 {
+        return false;
+    }
+    inside(length, slot.base, 64)
+}
+
+// The slot's own record is in order, with endpoint 1 beside it.
+pub fn slot_ok(slot: Slot, first: Endpoint, length: u64) -> bool
+    ensures { λ r. ⌜ r ≡ ownOk slot first length ⌝ }
+{
+    let state = slot.state;
+    match state {
+        SlotState::Free => {
+            if slot.base == 0 {
+                return slot.entry == 0;
+            }
+            false
+        }
+        SlotState::Enabled => slot.base == 0,
+        SlotState::Default => in_use(slot, first, length),
+        SlotState::Addressed => in_use(slot, first, length),
+        SlotState::Configured => in_use(slot, first, length),
+    }
+}
+
+// A record that has to be all zero: whatever is not is a fault.
+fn nonzero(e: Endpoint) -> Faults
+    ensures { λ r. ⌜ clear (r .flags) (r .pointer) ≡ isZero e ⌝ }
+{
+    let state = e.state;
+    Faults {
+        flags: endpoint_number(state) | bit(e.cycle),
+        pointer: e.pointer,
+    }
+}
+
+// The record of endpoint i, in a slot that has contexts or has none.
+pub fn faults_of(contexts: bool, length: u64, base: u64, i: u64, e: Endpoint) -> Faults
+    requires { ⌜ i ≤ 31 ⌝ }
+    ensures { λ r. ⌜ clear (r .flags) (r .pointer) ≡ recordOk contexts length base i e ⌝ }
+{
+    if !contexts {
+        return nonzero(e);
+    }
+    let state = e.state;
+    if endpoint_number(state) == 0 {
+        return nonzero(e);
+    }
+    let at = guest::address::plus(base, 32 * i);
+    if inside(length, at, 32) {
+        return Faults {
+            flags: 0,
+            pointer: e.pointer % 16,
+        };
+    }
+    Faults {
+        flags: 1,
+        pointer: 0,
+    }
+}
