@@ -9,3 +9,4 @@ pub mod LoopLaws
 pub mod ReadLaws
 pub mod FormLaws
 pub mod TraceLaws
+pub mod StoreLaws
