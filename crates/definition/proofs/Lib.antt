@@ -1,2 +1,4 @@
 pub mod TableLaws
 pub mod Cases
+pub mod MaskLaws
+pub mod CountLaws

@@ -106,14 +106,14 @@ runs-every {is = i ∷ is} Q h r g = runs-then (λ _. Q i) (h i) r (λ _ q. runs
 
 module _ {A : Type 0} (f : ℕ → A → Prog A) (m : Mem) (I : List ℕ → List Store → A → Type 0)
     (turn : (i : ℕ) (is : List ℕ) (ws : List Store) (y : A) → I (i ∷ is) ws y → Runs (f i y) (applied m ws) (λ vs z. I is (ws ++ vs) z)) where
-  each-from : (is : List ℕ) (ws : List Store) (y : A) → I is ws y → Runs (each is f y) (applied m ws) (λ vs z. I [] (ws ++ vs) z)
+  -- a walk that goes on: I holds of what is left of the list, of the stores so far and of the value so far
+  pub each-from : (is : List ℕ) (ws : List Store) (y : A) → I is ws y → Runs (each is f y) (applied m ws) (λ vs z. I [] (ws ++ vs) z)
   unfolding each
   each-from [] ws y h = runs-done (rw (append-nil ws) h)
   each-from (i ∷ is) ws y h =
       runs-bind (λ vs z. I is (ws ++ vs) z) (turn i is ws y h)
       (λ vs z q. rw (← applied-append ws vs m) (runs-map (λ us x k. rw (← append-assoc ws vs us) k) (each-from is (ws ++ vs) z q)))
 
-  -- a walk over a list: I holds of what is left of the list, of the stores so far and of the value so far
   pub runs-each : {is : List ℕ} {x : A} → I is [] x → Runs (each is f x) m (I [])
   unfolding applied
   runs-each {is} {x} h = each-from is [] x h

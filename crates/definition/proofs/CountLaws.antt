@@ -1,0 +1,278 @@
+-- What each part of a call stores and gives: a rule for each, over whatever is to be shown.
+-- Assumes nothing.
+use mathlib.Core.Path.{_≡_, refl, sym, ap, _∙_}
+use mathlib.Core.Logic.{_⊎_, inl, inr, ⊎-elim}
+use mathlib.Core.Bool.{Bool, true, false, not, _&&_, cond}
+use mathlib.Core.List.{List, [], _∷_, _++_, append-nil, append-assoc}
+use Prim.Native.Nat.{ℕ, zero, suc, _+_, _*_, _^_, _≤_}
+use native.Mathlib.Nat.{add-zero}
+use native.Mathlib.Omega.{arith}
+use borrow.Author.Tests.{eqb-true, leb-true}
+use lib.Dec.{leb}
+use lib.ListN.{length, length-take}
+use Rattle.guest.specs.Bytes.{count, setBits, slotStateByte, number, bytes, _⊕_, pointerOf, cycleOf}
+use Rattle.guest.specs.Prog.{Mem, Prog, done, get, put, block, splice, Within, Store, stores, Touched, choose, each, Result, ok, refuse, andThen, passed}
+use Rattle.guest.proofs.ListLaws.{All, and-left, and-right}
+use Rattle.guest.proofs.FormLaws.{refuse-ok}
+use Rattle.guest.proofs.ReadLaws.{applied, total}
+use Rattle.guest.proofs.StoreLaws.{Runs, store, runs-done, runs-get, runs-put, runs-choose, runs-need, runs-bind, runs-last, runs-then, runs-every, runs-map, runs-each, each-from}
+use Rattle.definition.specs.Types.{Endpoint, Waiting, Input, SlotState, Free, Enabled, Default, Addressed, Configured, Slot, Table, Lookup, Used, Nothing, Row, Report}
+use Rattle.definition.specs.Table.{isDisabled, isFree, disabled, free, endpointOf, slotOf, withEndpoint, withSlot, lookup, wellFormed}
+use Rattle.definition.specs.Steps.{Stepped, entry, reportOf, stepBy, step, launchAt, terminateAt}
+use Rattle.definition.specs.Walks.{Walk, begin, terminateAll, begun, ended, terminate, launch, copyLaunch}
+use Rattle.definition.specs.Commands.{formed, lent, found, onSlot, onEndpoint, checkType, contextCheck, settled, needContexts, add, contextState, walked, finish, deconfigure, reconfigure, carryOut, copyContexts, Plan, fresh, again, plan, freeing, endpointCall, Told, stepped}
+use Rattle.definition.specs.Rules.{Opened, Settled, isAddressed, isConfigured}
+use Rattle.definition.proofs.TableLaws.{endpoint-back, IsEndpoint}
+
+-- ---- one endpoint
+
+-- endpoint i, which was enabled, is gone
+abbrev pub gone : ℕ → ℕ → Walk → Walk
+gone id i w =
+    record { table = withEndpoint (w .table) id i disabled; launched = w .launched; terminated = w .terminated + 2 ^ i; port = w .port }
+
+-- a disabled endpoint changes nothing
+pub terminate-runs : {m : Mem} {R : List Store → Walk → Type 0} (id base i : ℕ) (w : Walk)
+    → (isDisabled (endpointOf (w .table) id i) ≡ true → R [] w)
+    → (isDisabled (endpointOf (w .table) id i) ≡ false → R (store (base ⊕ 32 * i) (0 ∷ []) ∷ []) (gone id i w)) → Runs (terminate id base i w) m R
+unfolding terminate terminateAt
+terminate-runs {R = R} id base i w f g =
+    runs-last _ (runs-choose (λ e. runs-done (same e)) (λ e. runs-put (runs-done (else e))))
+  where
+    same : isDisabled (endpointOf (w .table) id i) ≡ true → R [] (ended id i (endpointOf (w .table) id i) (endpointOf (w .table) id i) w)
+    same e = rw (e, endpoint-back (w .table) id i, add-zero (w .terminated)) (f e)
+
+    else : isDisabled (endpointOf (w .table) id i) ≡ false
+        → R (store (base ⊕ 32 * i) (0 ∷ []) ∷ []) (ended id i (endpointOf (w .table) id i) disabled w)
+    else e = rw e (g e)
+
+-- the record of an endpoint that starts at a dequeue word
+abbrev pub waiting : List ℕ → Endpoint
+waiting word = record { state = Waiting; cycle = cycleOf (number word); pointer = pointerOf (number word) }
+
+pub copy-runs : {m : Mem} {R : List Store → Walk → Type 0} (id base c i : ℕ) (w : Walk)
+    → (let at = base ⊕ 32 * i in
+      let n = splice m at (block m c 32) in
+      R (store at (block m c 32) ∷ store at (1 ∷ []) ∷ []) (begun id i (number (block n (base + 6) 1)) (waiting (block (splice n at (1 ∷ [])) (at + 8) 8)) w))
+    → Runs (copyLaunch id base c i w) m R
+unfolding copyLaunch launch launchAt
+copy-runs id base c i w h = runs-get (runs-put (runs-get (runs-last _ (runs-put (runs-get (runs-done h))))))
+
+-- a step stores at most nine bytes, all in the context
+pub step-runs : {m : Mem} {R : List Store → Result Stepped → Type 0} (e : Endpoint) (input : Input) (at : ℕ) → ((c : ℕ) → R [] (refuse c))
+    → ((ws : List Store) (r : Stepped) → total ws ≤ 9 → ((a : ℕ) → Touched ws a → Within at 32 a) → R ws (ok r)) → Runs (step e input at) m R
+unfolding step stepBy total Touched bytes
+step-runs {m} {R} e input at r f =
+    runs-choose (λ _. runs-done (r _))
+    (λ _. runs-choose (λ _. runs-done (r _))
+    (λ _. runs-choose
+    (λ _. runs-put (runs-choose
+    (λ _. runs-put (runs-done (f _ _ (omega arith) (λ a. ⊎-elim (λ h. omega arith) (⊎-elim (λ h. omega arith) (λ h. absurd h))))))
+    (λ _. runs-done (f _ _ (omega arith) (λ a. ⊎-elim (λ h. omega arith) (λ h. absurd h))))))
+    (λ _. runs-choose
+    (λ _. runs-put (runs-done (f _ _ (omega arith) (λ a. ⊎-elim (λ h. omega arith) (λ h. absurd h)))))
+    (λ _. runs-done (f _ _ (omega arith) (λ a h. absurd h))))))
+
+-- ---- the checks before a command
+
+module _ {A : Type 0} {m : Mem} {R : List Store → Result A → Type 0} (refused : (c : ℕ) → R [] (refuse c)) where
+  pub formed-runs : (t : Table) {p : Prog (Result A)} → (wellFormed t ≡ true → Runs p m R) → Runs (formed t p) m R
+  unfolding formed
+  formed-runs t f = runs-choose f (λ _. runs-done (refused 198))
+
+  pub lent-runs : (t : Table) (len : ℕ) {p : Prog (Result A)} → (t .length ≡ len → Runs p m R) → Runs (lent t len p) m R
+  unfolding lent
+  lent-runs t len f = runs-choose (λ e. f (eqb-true (t .length) len e)) (λ _. runs-done (refused 194))
+
+  pub slot-runs : (absent : ℕ) (t : Table) (id : ℕ) (f : Slot → Prog (Result A)) → ((s : Slot) → Opened t m id s → Runs (f s) m R)
+      → Runs (onSlot absent t (length m) id f) m R
+  unfolding onSlot
+  slot-runs absent t id f g = formed-runs t (λ w. lent-runs t (length m) (λ e. by w e (lookup t id) refl))
+    where
+      by : wellFormed t ≡ true → t .length ≡ length m → (l : Lookup) → lookup t id ≡ l → Runs (found l (done (refuse absent)) f) m R
+      by w e (Used s) u = g s (record { formed = w; size = e; used = u })
+      by w e Nothing u = runs-done (refused absent)
+
+  -- the context check gives the add flags
+  pub check-runs : (accepts : ℕ → Bool) (len P : ℕ) (f : ℕ → Prog (Result A)) → Runs (f (number (block m (P ⊕ 4) 4))) m R
+      → Runs (andThen (contextCheck accepts len P) f) m R
+  unfolding contextCheck checkType
+  check-runs accepts len P f g =
+      runs-then (λ adds. adds ≡ number (block m (P ⊕ 4) 4))
+      (runs-need _ _ (refused-value 193)
+      (λ _. runs-get (runs-every (λ _. Unit) (λ i. runs-need _ _ (refl, λ x e. tt) (λ _. runs-get (runs-choose (λ _. runs-done (refl, λ x e. tt)) (λ _. runs-done (refl, λ x e. tt)))))
+      refused-value (λ _. runs-done (refl, λ x e. cc)))))
+      refused (λ adds e. rw e g)
+    where
+      refused-value : (c : ℕ) → (_≡_ {A = List Store} [] []) × ((x : ℕ) → refuse c ≡ ok x → x ≡ number (block m (P ⊕ 4) 4))
+      refused-value c = (refl, λ x e. absurd (refuse-ok c x e))
+
+  pub settled-runs : (s : SlotState) {p : Prog (Result A)} → (Settled s → Runs p m R) → Runs (settled s p) m R
+  unfolding settled
+  settled-runs Free f = runs-done (refused 19)
+  settled-runs Enabled f = runs-done (refused 19)
+  settled-runs Default f = runs-done (refused 19)
+  settled-runs Addressed f = f isAddressed
+  settled-runs Configured f = f isConfigured
+
+-- both contexts of an added endpoint lie in memory
+pub contexts-runs : {m : Mem} (len P base i : ℕ)
+    → Runs (needContexts len P base i) m (λ ws r. (ws ≡ []) × ((x : Unit) → r ≡ ok x → ((P ⊕ 32 * (i + 1)) + 32 ≤ len) × ((base ⊕ 32 * i) + 32 ≤ len)))
+unfolding needContexts
+contexts-runs len P base i =
+    runs-need _ _ (refl, λ x e. absurd (refuse-ok 193 x e))
+    (λ a. runs-need _ _ (refl, λ x e. absurd (refuse-ok 193 x e)) (λ b. runs-done (refl, λ x e. (a, b))))
+
+-- ---- walks over endpoints: I holds of the endpoints left, of the stores so far and of the walk so far
+
+abbrev Held : Type 1
+Held = List ℕ → List Store → Walk → Type 0
+
+-- a turn of a walk that terminates: an endpoint is passed over, or it goes
+pub record Dropping (id base : ℕ) (I : Held) : Type 0 where
+  pub skip : (i : ℕ) (is : List ℕ) (ws : List Store) (w : Walk) → I (i ∷ is) ws w → I is ws w
+  pub go : (i : ℕ) (is : List ℕ) (ws : List Store) (w : Walk) → I (i ∷ is) ws w → I is (ws ++ store (base ⊕ 32 * i) (0 ∷ []) ∷ []) (gone id i w)
+
+pub terminate-all-runs : {m : Mem} (id base : ℕ) (is : List ℕ) (w : Walk) {I : Held} → Dropping id base I → I is [] w → Runs (terminateAll id base is w) m (I [])
+unfolding terminateAll
+terminate-all-runs {m} id base is w {I} e h =
+    runs-each (terminate id base) m I
+    (λ i is ws v q. terminate-runs id base i v (λ _. rw (append-nil ws) (e .skip i is ws v q)) (λ _. e .go i is ws v q)) h
+
+-- a turn of a walk that adds, after the stores ws
+pub record Adding (m : Mem) (id P base : ℕ) (I : Held) : Type 0 where
+  pub turn : (i : ℕ) (is : List ℕ) (ws : List Store) (w : Walk) → I (i ∷ is) ws w
+      → (let at = base ⊕ 32 * i in
+        let context = block (applied m ws) (P ⊕ 32 * (i + 1)) 32 in
+        let n = splice (applied m ws) at context in
+        I is (ws ++ store at context ∷ store at (1 ∷ []) ∷ [])
+        (begun id i (number (block n (base + 6) 1)) (waiting (block (splice n at (1 ∷ [])) (at + 8) 8)) w))
+
+pub add-all-runs : {m : Mem} {id P base : ℕ} (is : List ℕ) (ws : List Store) (w : Walk) {I : Held} → Adding m id P base I → I is ws w
+    → Runs (each is (add id P base) w) (applied m ws) (λ vs v. I [] (ws ++ vs) v)
+unfolding add
+add-all-runs {m} {id} {P} {base} is ws w {I} e h =
+    each-from (add id P base) m I (λ i is ws v q. copy-runs id base (P ⊕ 32 * (i + 1)) i v (e .turn i is ws v q)) is ws w h
+
+-- ---- commands, past their checks
+
+-- the slot with another state and base
+abbrev pub settle : ℕ → SlotState → ℕ → ℕ → Walk → Told
+settle id next base entry w = (walked w, withSlot (w .table) id (record { state = next; base = base; entry = entry }))
+
+-- how Address Device begins: the stores, the base and the walk before its copies
+pub data Starts (m : Mem) (id : ℕ) (s : Slot) (t : Table) : List Store → ℕ → Walk → Type 0 where
+  read : s .state ≡ Enabled → Starts m id s t [] (number (block m (s .entry) 8)) (begin t)
+  over : s .state ≡ Default → Starts m id s t [] (s .base) (begin t)
+  drop : s .state ≡ Default → Starts m id s t (store (s .base ⊕ 32 * 1) (0 ∷ []) ∷ []) (s .base) (gone id 1 (begin t))
+
+-- the memory once the slot context and its state byte are stored; the four stores; the walk after the launch. The input's contexts are at c
+abbrev pub half : Mem → ℕ → ℕ → SlotState → Mem
+half m c base next = splice (splice m base (block m c 32)) (base + 15) (slotStateByte (contextState next) ∷ [])
+
+abbrev pub copies : Mem → ℕ → ℕ → SlotState → List Store
+copies m c base next =
+    store base (block m c 32)
+    ∷ store (base + 15) (slotStateByte (contextState next) ∷ [])
+    ∷ store (base ⊕ 32 * 1) (block (half m c base next) (c + 32) 32)
+    ∷ store (base ⊕ 32 * 1) (1 ∷ [])
+    ∷ []
+
+abbrev pub copied : Mem → ℕ → ℕ → ℕ → SlotState → Walk → Walk
+copied m c id base next w =
+    let at = base ⊕ 32 * 1 in
+    let n = splice (half m c base next) at (block (half m c base next) (c + 32) 32) in
+    begun id 1 (number (block n (base + 6) 1)) (waiting (block (splice n at (1 ∷ [])) (at + 8) 8)) w
+
+module _ {m : Mem} {R : List Store → Result Told → Type 0} (id : ℕ) (s : Slot) (t : Table) where
+  pub deconfigure-runs : (next : SlotState) {I : Held} → Dropping id (s .base) I → I (count 30 2) [] (begin t)
+      → ((ws : List Store) (w : Walk) → I [] ws w
+      → R (ws ++ store (s .base + 15) (slotStateByte (contextState next) ∷ []) ∷ []) (ok (settle id next (s .base) (s .entry) w)))
+      → Runs (deconfigure id s next t) m R
+  unfolding deconfigure finish
+  deconfigure-runs next {I} e h g = runs-bind (I []) (terminate-all-runs id (s .base) (count 30 2) (begin t) e h) (λ ws w q. runs-put (runs-done (g ws w q)))
+
+  -- the walk of the drops holds J, that of the adds K
+  pub reconfigure-runs : ((c : ℕ) → R [] (refuse c)) → (accepts : ℕ → Bool) (len P : ℕ) {J K : Held} → Dropping id (s .base) J → Adding m id P (s .base) K
+      → (let adds = setBits 30 2 (number (block m (P ⊕ 4) 4)) in
+        All (λ i. ((P ⊕ 32 * (i + 1)) + 32 ≤ len) × ((s .base ⊕ 32 * i) + 32 ≤ len)) adds → (ws : List Store) (w : Walk) → J [] ws w → K adds ws w)
+      → J (setBits 30 2 (number (block m P 4))) [] (begin t)
+      → ((ws : List Store) (w : Walk) → K [] ws w
+      → R (ws ++ store (s .base + 15) (slotStateByte (contextState Configured) ∷ []) ∷ []) (ok (settle id Configured (s .base) (s .entry) w)))
+      → Runs (reconfigure accepts id P s len t) m R
+  unfolding reconfigure finish
+  reconfigure-runs r accepts len P {J} {K} e f g h k =
+      check-runs r accepts len P _
+      (runs-need _ _ (r 193)
+      (λ _. runs-get (runs-every _ (λ i. contexts-runs len P (s .base) i) r
+      (λ a. runs-bind (J []) (terminate-all-runs id (s .base) _ (begin t) e h)
+      (λ ws w q. runs-bind (λ vs v. K [] (ws ++ vs) v) (add-all-runs _ ws w f (g a ws w q))
+      (λ vs v q. runs-put (runs-done (rw (← append-assoc ws vs (store (s .base + 15) (slotStateByte (contextState Configured) ∷ []) ∷ [])) (k (ws ++ vs) v q)))))))))
+
+  -- "Address Device": the copies follow the stores ws
+  pub address-runs : ((c : ℕ) → R [] (refuse c)) → (len P : ℕ) (bsr : Bool)
+      → ((ws : List Store) (base : ℕ) (next : SlotState) (w : Walk) → Starts m id s t ws base w → (P ⊕ 32) + 64 ≤ len → base + 64 ≤ len
+      → R (ws ++ copies (applied m ws) (P ⊕ 32) base next) (ok (settle id next base (s .entry) (copied (applied m ws) (P ⊕ 32) id base next w))))
+      → Runs (carryOut len P t id s (plan (s .state) bsr)) m R
+  unfolding plan carryOut copyContexts applied
+  address-runs r len P bsr g = by (s .state) bsr refl
+    where
+      fresh-runs : s .state ≡ Enabled → (next : SlotState) → Runs (carryOut len P t id s (fresh next)) m R
+      fresh-runs e next =
+          runs-need _ _ (r 193)
+          (λ _. runs-get (runs-need _ _ (r 193)
+          (λ a. runs-need _ _ (r 193)
+          (λ b. runs-get (runs-put (runs-put (runs-last _ (copy-runs id _ _ 1 (begin t) (g [] _ next (begin t) (read e) a b)))))))))
+
+      again-runs : s .state ≡ Default → (next : SlotState) → Runs (carryOut len P t id s (again next)) m R
+      again-runs e next =
+          runs-need _ _ (r 193)
+          (λ a. runs-need _ _ (r 193)
+          (λ b. runs-bind
+          (λ ws w. Starts m id s t ws (s .base) w)
+          (terminate-runs id (s .base) 1 (begin t) (λ _. over e) (λ _. drop e))
+          (λ ws w q. runs-get (runs-put (runs-put (runs-last _ (copy-runs id _ _ 1 w (g ws _ next w q a b))))))))
+
+      by : (st : SlotState) (bsr : Bool) → s .state ≡ st → Runs (carryOut len P t id s (plan st bsr)) m R
+      by Free bsr e = runs-done (r 19)
+      by Enabled true e = fresh-runs e Default
+      by Enabled false e = fresh-runs e Addressed
+      by Default true e = runs-done (r 19)
+      by Default false e = again-runs e Addressed
+      by Addressed bsr e = runs-done (r 19)
+      by Configured bsr e = runs-done (r 19)
+
+-- "terminates all endpoints ascending and frees the slot"
+pub freeing-runs : {m : Mem} {R : List Store → Walk → Type 0} (id : ℕ) (t : Table) {I : Held} → Dropping id (slotOf t id .base) I → I (count 31 1) [] (begin t)
+    → ((ws : List Store) (w : Walk) → I [] ws w
+    → R ws (record { table = withSlot (w .table) id free; launched = w .launched; terminated = w .terminated; port = w .port }))
+    → Runs (freeing id t) m R
+unfolding freeing
+freeing-runs id t e h g = runs-last _ (runs-map g (terminate-all-runs id (slotOf t id .base) (count 31 1) (begin t) e h))
+
+-- a call that reaches one endpoint
+pub reach-runs : {m : Mem} {R : List Store → Result Told → Type 0} → ((c : ℕ) → R [] (refuse c)) → (noSlot noEndpoint id i : ℕ) (input : Input) (t : Table)
+    → ((s : Slot) (ws : List Store) (r : Stepped) → Opened t m id s → IsEndpoint i → total ws ≤ 9 → ((a : ℕ) → Touched ws a → Within (s .base ⊕ 32 * i) 32 a)
+    → R ws (ok (stepped r, withEndpoint t id i (r .endpoint))))
+    → Runs (endpointCall noSlot noEndpoint id i input (length m) t) m R
+unfolding endpointCall onEndpoint andThen passed
+reach-runs {m} {R} r noSlot noEndpoint id i input t g =
+    slot-runs r noSlot t id _
+    (λ s o. runs-choose
+    (λ e. runs-bind (λ ws x. R ws (by x))
+    (step-runs (endpointOf t id i) input (s .base ⊕ 32 * i) r (λ ws x n w. g s ws x o (is-endpoint e) n w)) (λ ws x q. rest ws x q))
+    (λ _. runs-done (r noEndpoint)))
+  where
+    by : Result Stepped → Result Told
+    by (ok x) = ok (stepped x, withEndpoint t id i (x .endpoint))
+    by (refuse c) = refuse c
+
+    rest : (ws : List Store) (x : Result Stepped) → R ws (by x)
+        → Runs (passed (λ (r : Stepped). done (ok (stepped r, withEndpoint t id i (r .endpoint)))) x) (applied m ws) (λ vs y. R (ws ++ vs) y)
+    rest ws (ok x) q = runs-done (rw (append-nil ws) q)
+    rest ws (refuse c) q = runs-done (rw (append-nil ws) q)
+
+    is-endpoint : (leb 1 i && leb i 31 && not (isDisabled (endpointOf t id i))) ≡ true → IsEndpoint i
+    is-endpoint e =
+        let both = and-left (leb 1 i && leb i 31) (not (isDisabled (endpointOf t id i))) e in
+        (leb-true 1 i (and-left (leb 1 i) (leb i 31) both), leb-true i 31 (and-right (leb 1 i) (leb i 31) both))
