@@ -125,7 +125,7 @@ contexts-runs len P base i =
 
 -- ---- walks over endpoints: I holds of the endpoints left, of the stores so far and of the walk so far
 
-abbrev Held : Type 1
+abbrev pub Held : Type 1
 Held = List ℕ → List Store → Walk → Type 0
 
 -- a turn of a walk that terminates: an endpoint is passed over, or it goes
@@ -164,7 +164,7 @@ settle id next base entry w = (walked w, withSlot (w .table) id (record { state 
 pub data Starts (m : Mem) (id : ℕ) (s : Slot) (t : Table) : List Store → ℕ → Walk → Type 0 where
   read : s .state ≡ Enabled → Starts m id s t [] (number (block m (s .entry) 8)) (begin t)
   over : s .state ≡ Default → Starts m id s t [] (s .base) (begin t)
-  drop : s .state ≡ Default → Starts m id s t (store (s .base ⊕ 32 * 1) (0 ∷ []) ∷ []) (s .base) (gone id 1 (begin t))
+  gives-up : s .state ≡ Default → Starts m id s t (store (s .base ⊕ 32 * 1) (0 ∷ []) ∷ []) (s .base) (gone id 1 (begin t))
 
 -- the memory once the slot context and its state byte are stored; the four stores; the walk after the launch. The input's contexts are at c
 abbrev pub half : Mem → ℕ → ℕ → SlotState → Mem
@@ -230,7 +230,7 @@ module _ {m : Mem} {R : List Store → Result Told → Type 0} (id : ℕ) (s : S
           (λ a. runs-need _ _ (r 193)
           (λ b. runs-bind
           (λ ws w. Starts m id s t ws (s .base) w)
-          (terminate-runs id (s .base) 1 (begin t) (λ _. over e) (λ _. drop e))
+          (terminate-runs id (s .base) 1 (begin t) (λ _. over e) (λ _. gives-up e))
           (λ ws w q. runs-get (runs-put (runs-put (runs-last _ (copy-runs id _ _ 1 w (g ws _ next w q a b))))))))
 
       by : (st : SlotState) (bsr : Bool) → s .state ≡ st → Runs (carryOut len P t id s (plan st bsr)) m R

@@ -2,3 +2,4 @@ pub mod TableLaws
 pub mod Cases
 pub mod MaskLaws
 pub mod CountLaws
+pub mod ShapeLaws

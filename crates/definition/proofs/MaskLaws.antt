@@ -18,6 +18,9 @@ pub data Ascends (n : ℕ) : ℕ → List ℕ → Type 0 where
   ends : {k : ℕ} → k ≤ n → Ascends n k []
   next : {k i : ℕ} {is : List ℕ} → k ≤ i → Ascends n (i + 1) is → Ascends n k (i ∷ is)
 
+pub ascends-head : {n k i : ℕ} {is : List ℕ} → Ascends n k (i ∷ is) → (k ≤ i) × Ascends n (i + 1) is
+ascends-head (next b a) = (b, a)
+
 pub ascends-from : {n k : ℕ} {is : List ℕ} (j : ℕ) → j ≤ k → Ascends n k is → Ascends n j is
 ascends-from j h (ends b) = ends {k = j} (omega arith)
 ascends-from j h (next {i = i} b a) = next {k = j} {i = i} (omega arith) a
@@ -43,6 +46,10 @@ those-ascends f {n} {k} (next {i = i} {is} b a) = by (f i) refl (those-ascends f
     by : (c : Bool) → f i ≡ c → Ascends n (i + 1) (those f is) → Ascends n k (those f (i ∷ is))
     by true e r = rw (those-yes f i is e) (next b r)
     by false e r = rw (those-no f i is e) (ascends-from k (omega arith) r)
+
+-- the set bits of a number ascend
+pub bits-ascend : (n i x : ℕ) → Ascends (i + n) i (setBits n i x)
+bits-ascend n i x = those-ascends (bit x) (count-ascends n i)
 
 -- ---- masks
 

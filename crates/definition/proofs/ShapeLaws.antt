@@ -1,0 +1,281 @@
+-- The shape of every answer: how much a call stores at most, which bits its masks hold, and what is 0.
+-- Assumes nothing.
+use mathlib.Core.Path.{_≡_, refl, ap, subst}
+use mathlib.Core.Bool.{Bool, true, false, cond}
+use mathlib.Core.List.{List, [], _∷_, _++_}
+use Prim.Native.Nat.{ℕ, _+_, _*_, _%_, _^_, _≤_, _<_}
+use native.Mathlib.Nat.{zero-add}
+use native.Mathlib.Omega.{arith}
+use lib.ListN.{length, drop, length-take}
+use Rattle.guest.specs.Bytes.{number, _⊕_, slotStateByte, count, setBits, bit, those}
+use Rattle.guest.specs.Prog.{Mem, Prog, done, bind, each, stores, block, run, Store, Result, ok, refuse}
+use Rattle.guest.proofs.ListLaws.{count-length, those-length}
+use Rattle.guest.proofs.ReadLaws.{applied, total, run-count}
+use Rattle.guest.proofs.StoreLaws.{Runs, store, runs-run, runs-done, runs-choose, runs-last, runs-map, runs-each, total-append}
+use Rattle.definition.specs.Types.{Input, SlotState, Default, Addressed, Configured, Slot, Table, Answer}
+use Rattle.definition.specs.Table.{isFree, slotOf}
+use Rattle.definition.specs.Walks.{Walk, begin}
+use Rattle.definition.specs.Steps.{Stepped}
+use Rattle.definition.specs.Commands as commands
+use Rattle.definition.specs.Commands.{contextState, Told, answer, walked, stepped, endpointCall}
+use Rattle.definition.specs.Calls.{Call, setLimit, setDcbaap, enableSlot, disableSlot, addressDevice, configureEndpoint, evaluateContext, resetDevice, resetAll, stopEndpoint, resetEndpoint, setDequeue, doorbell, hostOk, hostStall, hostTransactionError, hostTrbError, meaning, told, prog}
+use Rattle.definition.proofs.MaskLaws.{Ascends, ends, next, Mask, mask-up, mask-bit, bit-some, ascends-below, ascends-length, count-ascends, bits-ascend, ascends-head, ascends-from}
+use Rattle.definition.proofs.CountLaws.{Starts, read, over, gives-up, copies, copied, half, Dropping, Adding, gone, slot-runs, formed-runs, lent-runs, check-runs, settled-runs, deconfigure-runs, reconfigure-runs, address-runs, freeing-runs, reach-runs}
+
+-- the most bytes that a call stores
+abbrev pub mostStored : Call → ℕ
+mostStored (setLimit n) = 0
+mostStored (setDcbaap a) = 0
+mostStored enableSlot = 0
+mostStored (disableSlot id) = 31
+mostStored (addressDevice id P bsr) = 67
+mostStored (configureEndpoint id P dc) = 1021
+mostStored (evaluateContext id P) = 0
+mostStored (resetDevice id) = 31
+mostStored resetAll = 496
+mostStored (stopEndpoint id i) = 9
+mostStored (resetEndpoint id i) = 9
+mostStored (setDequeue id i d) = 9
+mostStored (doorbell id i l) = 9
+mostStored (hostOk id i l) = 9
+mostStored (hostStall id i g) = 9
+mostStored (hostTransactionError id i g) = 9
+mostStored (hostTrbError id i) = 9
+
+-- the answer a of the call c, which stored n bytes. A mask holds no bit but 1 to 31
+pub record Shape (c : Call) (n : ℕ) (a : Answer) : Type 0 where
+  pub stored : n ≤ mostStored c
+  pub launched : (a .launched < 2 ^ 32) × (a .launched % 2 ≡ 0)
+  pub terminated : (a .terminated < 2 ^ 32) × (a .terminated % 2 ≡ 0)
+  pub slot : (c ≡ enableSlot → ⊥) → a .slot ≡ 0
+  pub port : a .launched ≡ 0 → a .port ≡ 0
+  pub submit : a .submit ≤ 1
+  pub cancel : a .cancel ≤ 1
+
+-- ---- answers
+
+shape-answer : (c : Call) (n code : ℕ) → n ≤ mostStored c → Shape c n (answer code)
+shape-answer c n code h =
+    record { stored = h; launched = omega arith; terminated = omega arith; slot = λ _. refl; port = λ _. refl; submit = omega arith; cancel = omega arith }
+
+flag-small : (b : Bool) → cond b 1 0 ≤ 1
+flag-small true = omega arith
+flag-small false = omega arith
+
+shape-stepped : (c : Call) (n : ℕ) (r : Stepped) → n ≤ mostStored c → Shape c n (stepped r)
+shape-stepped c n r h =
+    record {
+      stored = h; launched = omega arith; terminated = omega arith; slot = λ _. refl; port = λ _. refl;
+      submit = flag-small (r .submit); cancel = flag-small (r .cancel);
+    }
+
+-- a walk that has terminated endpoints below k and launched some below l
+record Going (k l : ℕ) (w : Walk) : Type 0 where
+  ended : Mask k (w .terminated)
+  begun : Mask l (w .launched)
+  port : w .launched ≡ 0 → w .port ≡ 0
+
+shape-walked : (c : Call) (n : ℕ) (w : Walk) → n ≤ mostStored c → Going 32 32 w → Shape c n (walked w)
+shape-walked c n w h g =
+    record { stored = h; launched = g .begun; terminated = g .ended; slot = λ _. refl; port = g .port; submit = omega arith; cancel = omega arith }
+
+-- ---- walks
+
+-- on the way down a list of endpoints to terminate, with n bytes at most in all
+record Drops (n : ℕ) (is : List ℕ) (ws : List Store) (w : Walk) : Type 0 where
+  from : ℕ
+  low : 1 ≤ from
+  left : Ascends 32 from is
+  going : Going from 1 w
+  stored : total ws + length is ≤ n
+
+drops : (n id base : ℕ) → Dropping id base (Drops n)
+unfolding total
+drops n id base =
+    record {
+      skip = λ i is ws w d.
+          let h = ascends-head (d .left) in
+          record {
+            from = i + 1;
+            low = omega arith;
+            left = h .1;
+            going = record { ended = mask-up (d .from) (i + 1) (w .terminated) (omega arith) (d .going .ended); begun = d .going .begun; port = d .going .port };
+            stored = omega arith;
+          };
+      go = λ i is ws w d.
+          let h = ascends-head (d .left) in
+          record {
+            from = i + 1;
+            low = omega arith;
+            left = h .1;
+            going = record { ended = mask-bit (d .from) i (w .terminated) (d .low) (h .0) (d .going .ended); begun = d .going .begun; port = d .going .port };
+            stored = omega (arith, total-append ws (store (base ⊕ 32 * i) (0 ∷ []) ∷ []));
+          };
+    }
+
+-- on the way down a list of endpoints to add
+record Joins (n : ℕ) (is : List ℕ) (ws : List Store) (w : Walk) : Type 0 where
+  from : ℕ
+  low : 1 ≤ from
+  left : Ascends 32 from is
+  going : Going 32 from w
+  stored : total ws + 33 * length is ≤ n
+
+joins : (n : ℕ) (m : Mem) (id P base : ℕ) → Adding m id P base (Joins n)
+unfolding total
+joins n m id P base =
+    record {
+      turn = λ i is ws w d.
+          let h = ascends-head (d .left) in
+          record {
+            from = i + 1;
+            low = omega arith;
+            left = h .1;
+            going = record {
+              ended = d .going .ended;
+              begun = mask-bit (d .from) i (w .launched) (d .low) (h .0) (d .going .begun);
+              port = λ e. absurd (bit-some i (w .launched) e);
+            };
+            stored = omega (arith, total-append ws (store (base ⊕ 32 * i) (block (applied m ws) (P ⊕ 32 * (i + 1)) 32) ∷ store (base ⊕ 32 * i) (1 ∷ []) ∷ []),
+              length-take 32 (drop (P ⊕ 32 * (i + 1)) (applied m ws)));
+          };
+    }
+
+drops-begin : (n : ℕ) {is : List ℕ} (t : Table) → Ascends 32 1 is → length is ≤ n → Drops n is [] (begin t)
+unfolding total
+drops-begin n t a h =
+    record { from = 1; low = omega arith; left = a; going = record { ended = omega arith; begun = omega arith; port = λ _. refl }; stored = omega arith }
+
+-- a walk that came to its end
+drops-end : (n : ℕ) (ws : List Store) (w : Walk) → Drops n [] ws w → Going 32 1 w × (total ws ≤ n)
+drops-end n ws w d =
+    (record { ended = mask-up (d .from) 32 (w .terminated) (ascends-below (d .left)) (d .going .ended); begun = d .going .begun; port = d .going .port }, omega arith)
+
+going-end : (l : ℕ) (w : Walk) → l ≤ 32 → Going 32 l w → Going 32 32 w
+going-end l w h g = record { ended = g .ended; begun = mask-up l 32 (w .launched) h (g .begun); port = g .port }
+
+bits-few : (x : ℕ) → length (setBits 30 2 x) ≤ 30
+bits-few x = omega (arith, ascends-length (bits-ascend 30 2 x))
+
+one-more : (ws : List Store) (a b : ℕ) → total (ws ++ store a (b ∷ []) ∷ []) ≡ total ws + 1
+unfolding total
+one-more ws a b = total-append ws (store a (b ∷ []) ∷ [])
+
+-- how Address Device begins
+started : {m : Mem} {id : ℕ} {s : Slot} {t : Table} {ws : List Store} {base : ℕ} {w : Walk} → Starts m id s t ws base w → Going 2 1 w × (total ws ≤ 1)
+unfolding total
+started (read e) = (record { ended = omega arith; begun = omega arith; port = λ _. refl }, omega arith)
+started (over e) = (record { ended = omega arith; begun = omega arith; port = λ _. refl }, omega arith)
+started (gives-up e) = (record { ended = omega arith; begun = omega arith; port = λ _. refl }, omega arith)
+
+-- ---- commands
+
+module _ (c : Call) (t : Table) where
+  -- what is shown of a call's program
+  abbrev Fits : List Store → Result Told → Type 0
+  Fits ws r = Shape c (total ws) (told t r .0)
+
+  refused : (code : ℕ) → Fits [] (refuse code)
+  unfolding total
+  refused code = shape-answer c 0 code (omega arith)
+
+  deconfigure-fits : {m : Mem} (id : ℕ) (s : Slot) (nxt : SlotState) → 31 ≤ mostStored c → Runs (commands.deconfigure id s nxt t) m Fits
+  deconfigure-fits id s nxt h =
+      deconfigure-runs id s t nxt (drops 30 id (s .base)) (drops-begin 30 t (ascends-from 1 (omega arith) (count-ascends 30 2)) (omega (arith, count-length 30 2)))
+      (λ ws w d. let e = drops-end 30 ws w d in shape-walked c _ w (omega (arith, one-more ws (s .base + 15) (slotStateByte (contextState nxt)))) (going-end 1 w (omega arith) (e .0)))
+
+  reconfigure-fits : {m : Mem} (accepts : ℕ → Bool) (id P : ℕ) (s : Slot) (len : ℕ) → 1021 ≤ mostStored c → Runs (commands.reconfigure accepts id P s len t) m Fits
+  reconfigure-fits {m} accepts id P s len h =
+      reconfigure-runs id s t refused accepts len P (drops 30 id (s .base)) (joins 1020 m id P (s .base))
+      (λ _ ws w d.
+      let e = drops-end 30 ws w d in
+      record {
+        from = 1; low = omega arith; left = ascends-from 1 (omega arith) (bits-ascend 30 2 (number (block m (P ⊕ 4) 4)));
+        going = e .0; stored = omega (arith, bits-few (number (block m (P ⊕ 4) 4)));
+      })
+      (drops-begin 30 t (ascends-from 1 (omega arith) (bits-ascend 30 2 (number (block m P 4)))) (bits-few (number (block m P 4))))
+      (λ ws w d. shape-walked c _ w (omega (arith, one-more ws (s .base + 15) (slotStateByte (contextState Configured))))
+      (going-end (d .from) w (ascends-below (d .left)) (d .going)))
+
+  address-fits : {m : Mem} (len P : ℕ) (bsr : Bool) (id : ℕ) (s : Slot) → 67 ≤ mostStored c → Runs (commands.carryOut len P t id s (commands.plan (s .state) bsr)) m Fits
+  unfolding total
+  address-fits {m} len P bsr id s h =
+      address-runs id s t refused len P bsr (λ ws base nxt w b _ _. let e = started b in shape-walked c _ (copied (applied m ws) (P ⊕ 32) id base nxt w) (copies-few ws base nxt (e .1) h)
+      (record {
+        ended = mask-up 2 32 (w .terminated) (omega arith) (e .0 .ended);
+        begun = mask-up 2 32 (w .launched + 2 ^ 1) (omega arith) (mask-bit 1 1 (w .launched) (omega arith) (omega arith) (e .0 .begun));
+        port = λ z. absurd (bit-some 1 (w .launched) z);
+      }))
+    where
+      copies-few : (ws : List Store) (base : ℕ) (nxt : SlotState) → total ws ≤ 1 → 67 ≤ mostStored c → total (ws ++ copies (applied m ws) (P ⊕ 32) base nxt) ≤ mostStored c
+      copies-few ws base nxt h q =
+          omega (arith, total-append ws (copies (applied m ws) (P ⊕ 32) base nxt), length-take 32 (drop (P ⊕ 32) (applied m ws)),
+            length-take 32 (drop ((P ⊕ 32) + 32) (half (applied m ws) (P ⊕ 32) base nxt)))
+
+
+  freeing-fits : {m : Mem} {R : List Store → Walk → Type 0} (id : ℕ) (u : Table) → ((ws : List Store) (w : Walk) → Going 32 32 w → total ws ≤ 31 → R ws w)
+      → Runs (commands.freeing id u) m R
+  freeing-fits id u g =
+      freeing-runs id u (drops 31 id (slotOf u id .base)) (drops-begin 31 u (count-ascends 31 1) (omega (arith, count-length 31 1)))
+      (λ ws w d. let e = drops-end 31 ws w d in g ws _ (going-end 1 _ (omega arith) (record { ended = e .0 .ended; begun = e .0 .begun; port = e .0 .port })) (e .1))
+
+  reach-fits : {m : Mem} (noSlot noEndpoint id i : ℕ) (input : Input) → 9 ≤ mostStored c → Runs (endpointCall noSlot noEndpoint id i input (length m) t) m Fits
+  reach-fits noSlot noEndpoint id i input h =
+      reach-runs refused noSlot noEndpoint id i input t (λ s ws r o e n w. shape-stepped c (total ws) r (omega arith))
+
+  -- all slots freed, one after another
+  all-fits : {m : Mem} → Runs (each (count 16 1) (λ id u. bind (commands.freeing id u) λ w. done (w .table)) t) m (λ ws u. total ws ≤ 496)
+  unfolding total
+  all-fits {m} =
+      runs-map (λ ws u h. omega arith)
+      (runs-each _ m (λ is ws u. total ws + 31 * length is ≤ 496)
+      (λ i is ws u h. runs-last _ (freeing-fits i u (λ vs w _ n. omega (arith, total-append ws vs))))
+      (omega (arith, count-length 16 1)))
+
+  enable-fits : {m : Mem} (ids : List ℕ) → c ≡ enableSlot → Runs (commands.enableOne t ids) m Fits
+  unfolding total
+  enable-fits [] e = runs-done (refused 9)
+  enable-fits (id ∷ ids) e =
+      runs-done (record { stored = omega arith; launched = omega arith; terminated = omega arith; slot = λ n. absurd (n e); port = λ _. refl; submit = omega arith; cancel = omega arith })
+
+fits : (c : Call) (t : Table) (m : Mem) → Runs (meaning c (length m) t) m (Fits c t)
+unfolding meaning commands.setLimit commands.setDcbaap commands.enableSlot commands.disableSlot commands.addressDevice commands.configureEndpoint commands.evaluateContext commands.resetDevice commands.resetAll total
+fits (setLimit n) t m = let c = setLimit n in formed-runs (refused c t) t (λ _. runs-choose (λ _. runs-done (refused c t 0)) (λ _. runs-done (refused c t 197)))
+fits (setDcbaap a) t m = let c = setDcbaap a in formed-runs (refused c t) t (λ _. runs-done (refused c t 0))
+fits enableSlot t m = formed-runs (refused enableSlot t) t (λ _. enable-fits enableSlot t (those (λ id. isFree (slotOf t id)) (count (t .limit) 1)) refl)
+fits (disableSlot id) t m =
+    let c = disableSlot id in
+    slot-runs (refused c t) 11 t id _ (λ s o. runs-last _ (freeing-fits c t id t (λ ws w g n. shape-walked c (total ws) w n g)))
+fits (addressDevice id P bsr) t m =
+    let c = addressDevice id P bsr in
+    slot-runs (refused c t) 11 t id _ (λ s o. check-runs (refused c t) _ (length m) P _ (address-fits c t (length m) P bsr id s (omega arith)))
+fits (configureEndpoint id P true) t m =
+    let c = configureEndpoint id P true in
+    slot-runs (refused c t) 11 t id _ (λ s o. settled-runs (refused c t) (s .state) (λ _. deconfigure-fits c t id s Addressed (omega arith)))
+fits (configureEndpoint id P false) t m =
+    let c = configureEndpoint id P false in
+    slot-runs (refused c t) 11 t id _ (λ s o. settled-runs (refused c t) (s .state) (λ _. reconfigure-fits c t _ id P s (length m) (omega arith)))
+fits (evaluateContext id P) t m =
+    let c = evaluateContext id P in
+    slot-runs (refused c t) 11 t id _ (λ s o. check-runs (refused c t) _ (length m) P _ (runs-done (refused c t 1)))
+fits (resetDevice id) t m =
+    let c = resetDevice id in
+    slot-runs (refused c t) 11 t id _ (λ s o. settled-runs (refused c t) (s .state) (λ _. deconfigure-fits c t id s Default (omega arith)))
+fits resetAll t m =
+    formed-runs (refused resetAll t) t
+    (λ _. lent-runs (refused resetAll t) t (length m) (λ _. runs-last _ (runs-map (λ ws u h. shape-answer resetAll (total ws) 0 h) (all-fits resetAll t))))
+fits (stopEndpoint id i) t m = reach-fits (stopEndpoint id i) t 11 12 id i _ (omega arith)
+fits (resetEndpoint id i) t m = reach-fits (resetEndpoint id i) t 11 12 id i _ (omega arith)
+fits (setDequeue id i d) t m = reach-fits (setDequeue id i d) t 11 12 id i _ (omega arith)
+fits (doorbell id i l) t m = reach-fits (doorbell id i l) t 11 12 id i _ (omega arith)
+fits (hostOk id i l) t m = reach-fits (hostOk id i l) t 196 196 id i _ (omega arith)
+fits (hostStall id i g) t m = reach-fits (hostStall id i g) t 196 196 id i _ (omega arith)
+fits (hostTransactionError id i g) t m = reach-fits (hostTransactionError id i g) t 196 196 id i _ (omega arith)
+fits (hostTrbError id i) t m = reach-fits (hostTrbError id i) t 196 196 id i _ (omega arith)
+
+-- the shape of every answer, for every table and every memory
+pub shape : (c : Call) (t : Table) (m : Mem) → (let r = run (prog c (length m) t) m 0 in Shape c (r .stored) (r .value .0))
+unfolding prog
+shape c t m =
+    let h = runs-run (runs-last (told t) {R = λ ws x. Shape c (total ws) (x .0)} (fits c t m)) 0 in
+    rw (run-count (prog c (length m) t) m 0, zero-add (total (stores (prog c (length m) t) m))) h
