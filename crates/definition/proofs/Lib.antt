@@ -3,3 +3,4 @@ pub mod Cases
 pub mod MaskLaws
 pub mod CountLaws
 pub mod ShapeLaws
+pub mod EndedLaws
