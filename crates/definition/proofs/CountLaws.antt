@@ -8,7 +8,7 @@ use Prim.Native.Nat.{ℕ, zero, suc, _+_, _*_, _^_, _≤_}
 use native.Mathlib.Nat.{add-zero}
 use native.Mathlib.Omega.{arith}
 use borrow.Author.Tests.{eqb-true, leb-true}
-use lib.Dec.{leb}
+use lib.Dec.{leb, eqb}
 use lib.ListN.{length, length-take}
 use Rattle.guest.specs.Bytes.{count, setBits, slotStateByte, number, bytes, _⊕_, pointerOf, cycleOf}
 use Rattle.guest.specs.Prog.{Mem, Prog, done, get, put, block, splice, Within, Store, stores, Touched, choose, each, Result, ok, refuse, andThen, passed}
@@ -17,7 +17,7 @@ use Rattle.guest.proofs.FormLaws.{refuse-ok}
 use Rattle.guest.proofs.ReadLaws.{applied, total}
 use Rattle.guest.proofs.StoreLaws.{Runs, store, runs-done, runs-get, runs-put, runs-choose, runs-need, runs-bind, runs-last, runs-then, runs-every, runs-map, runs-each, each-from}
 use Rattle.definition.specs.Types.{Endpoint, Waiting, Input, SlotState, Free, Enabled, Default, Addressed, Configured, Slot, Table, Lookup, Used, Nothing, Row, Report}
-use Rattle.definition.specs.Table.{isDisabled, isFree, disabled, free, endpointOf, slotOf, withEndpoint, withSlot, lookup, wellFormed}
+use Rattle.definition.specs.Table.{slotNumber, isDisabled, isFree, disabled, free, endpointOf, slotOf, withEndpoint, withSlot, lookup, wellFormed}
 use Rattle.definition.specs.Steps.{Stepped, entry, reportOf, stepBy, step, launchAt, terminateAt}
 use Rattle.definition.specs.Walks.{Walk, begin, terminateAll, begun, ended, terminate, launch, copyLaunch}
 use Rattle.definition.specs.Commands.{formed, lent, found, onSlot, onEndpoint, checkType, contextCheck, settled, needContexts, add, contextState, walked, finish, deconfigure, reconfigure, carryOut, copyContexts, Plan, fresh, again, plan, freeing, endpointCall, Told, stepped}
@@ -131,13 +131,14 @@ Held = List ℕ → List Store → Walk → Type 0
 -- a turn of a walk that terminates: an endpoint is passed over, or it goes
 pub record Dropping (id base : ℕ) (I : Held) : Type 0 where
   pub skip : (i : ℕ) (is : List ℕ) (ws : List Store) (w : Walk) → I (i ∷ is) ws w → I is ws w
-  pub go : (i : ℕ) (is : List ℕ) (ws : List Store) (w : Walk) → I (i ∷ is) ws w → I is (ws ++ store (base ⊕ 32 * i) (0 ∷ []) ∷ []) (gone id i w)
+  pub go : (i : ℕ) (is : List ℕ) (ws : List Store) (w : Walk) → I (i ∷ is) ws w → isDisabled (endpointOf (w .table) id i) ≡ false
+      → I is (ws ++ store (base ⊕ 32 * i) (0 ∷ []) ∷ []) (gone id i w)
 
 pub terminate-all-runs : {m : Mem} (id base : ℕ) (is : List ℕ) (w : Walk) {I : Held} → Dropping id base I → I is [] w → Runs (terminateAll id base is w) m (I [])
 unfolding terminateAll
 terminate-all-runs {m} id base is w {I} e h =
     runs-each (terminate id base) m I
-    (λ i is ws v q. terminate-runs id base i v (λ _. rw (append-nil ws) (e .skip i is ws v q)) (λ _. e .go i is ws v q)) h
+    (λ i is ws v q. terminate-runs id base i v (λ _. rw (append-nil ws) (e .skip i is ws v q)) (λ d. e .go i is ws v q d)) h
 
 -- a turn of a walk that adds, after the stores ws
 pub record Adding (m : Mem) (id P base : ℕ) (I : Held) : Type 0 where
@@ -211,34 +212,35 @@ module _ {m : Mem} {R : List Store → Result Told → Type 0} (id : ℕ) (s : S
 
   -- "Address Device": the copies follow the stores ws
   pub address-runs : ((c : ℕ) → R [] (refuse c)) → (len P : ℕ) (bsr : Bool)
-      → ((ws : List Store) (base : ℕ) (next : SlotState) (w : Walk) → Starts m id s t ws base w → (P ⊕ 32) + 64 ≤ len → base + 64 ≤ len
+      → ((ws : List Store) (base : ℕ) (next : SlotState) (w : Walk) → Starts m id s t ws base w → eqb (slotNumber next) 0 ≡ false
+      → (P ⊕ 32) + 64 ≤ len → base + 64 ≤ len
       → R (ws ++ copies (applied m ws) (P ⊕ 32) base next) (ok (settle id next base (s .entry) (copied (applied m ws) (P ⊕ 32) id base next w))))
       → Runs (carryOut len P t id s (plan (s .state) bsr)) m R
   unfolding plan carryOut copyContexts applied
   address-runs r len P bsr g = by (s .state) bsr refl
     where
-      fresh-runs : s .state ≡ Enabled → (next : SlotState) → Runs (carryOut len P t id s (fresh next)) m R
-      fresh-runs e next =
+      fresh-runs : s .state ≡ Enabled → (next : SlotState) → eqb (slotNumber next) 0 ≡ false → Runs (carryOut len P t id s (fresh next)) m R
+      fresh-runs e next n =
           runs-need _ _ (r 193)
           (λ _. runs-get (runs-need _ _ (r 193)
           (λ a. runs-need _ _ (r 193)
-          (λ b. runs-get (runs-put (runs-put (runs-last _ (copy-runs id _ _ 1 (begin t) (g [] _ next (begin t) (read e) a b)))))))))
+          (λ b. runs-get (runs-put (runs-put (runs-last _ (copy-runs id _ _ 1 (begin t) (g [] _ next (begin t) (read e) n a b)))))))))
 
-      again-runs : s .state ≡ Default → (next : SlotState) → Runs (carryOut len P t id s (again next)) m R
-      again-runs e next =
+      again-runs : s .state ≡ Default → (next : SlotState) → eqb (slotNumber next) 0 ≡ false → Runs (carryOut len P t id s (again next)) m R
+      again-runs e next n =
           runs-need _ _ (r 193)
           (λ a. runs-need _ _ (r 193)
           (λ b. runs-bind
           (λ ws w. Starts m id s t ws (s .base) w)
           (terminate-runs id (s .base) 1 (begin t) (λ _. over e) (λ _. gives-up e))
-          (λ ws w q. runs-get (runs-put (runs-put (runs-last _ (copy-runs id _ _ 1 w (g ws _ next w q a b))))))))
+          (λ ws w q. runs-get (runs-put (runs-put (runs-last _ (copy-runs id _ _ 1 w (g ws _ next w q n a b))))))))
 
       by : (st : SlotState) (bsr : Bool) → s .state ≡ st → Runs (carryOut len P t id s (plan st bsr)) m R
       by Free bsr e = runs-done (r 19)
-      by Enabled true e = fresh-runs e Default
-      by Enabled false e = fresh-runs e Addressed
+      by Enabled true e = fresh-runs e Default refl
+      by Enabled false e = fresh-runs e Addressed refl
       by Default true e = runs-done (r 19)
-      by Default false e = again-runs e Addressed
+      by Default false e = again-runs e Addressed refl
       by Addressed bsr e = runs-done (r 19)
       by Configured bsr e = runs-done (r 19)
 

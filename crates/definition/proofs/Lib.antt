@@ -4,3 +4,4 @@ pub mod MaskLaws
 pub mod CountLaws
 pub mod ShapeLaws
 pub mod EndedLaws
+pub mod IsolationLaws

@@ -102,7 +102,7 @@ drops n id base =
             going = record { ended = mask-up (d .from) (i + 1) (w .terminated) (omega arith) (d .going .ended); begun = d .going .begun; port = d .going .port };
             stored = omega arith;
           };
-      go = λ i is ws w d.
+      go = λ i is ws w d _.
           let h = ascends-head (d .left) in
           record {
             from = i + 1;
@@ -200,7 +200,7 @@ module _ (c : Call) (t : Table) where
   address-fits : {m : Mem} (len P : ℕ) (bsr : Bool) (id : ℕ) (s : Slot) → 67 ≤ mostStored c → Runs (commands.carryOut len P t id s (commands.plan (s .state) bsr)) m Fits
   unfolding total
   address-fits {m} len P bsr id s h =
-      address-runs id s t refused len P bsr (λ ws base nxt w b _ _. let e = started b in shape-walked c _ (copied (applied m ws) (P ⊕ 32) id base nxt w) (copies-few ws base nxt (e .1) h)
+      address-runs id s t refused len P bsr (λ ws base nxt w b _ _ _. let e = started b in shape-walked c _ (copied (applied m ws) (P ⊕ 32) id base nxt w) (copies-few ws base nxt (e .1) h)
       (record {
         ended = mask-up 2 32 (w .terminated) (omega arith) (e .0 .ended);
         begun = mask-up 2 32 (w .launched + 2 ^ 1) (omega arith) (mask-bit 1 1 (w .launched) (omega arith) (omega arith) (e .0 .begun));

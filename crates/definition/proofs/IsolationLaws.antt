@@ -1,0 +1,258 @@
+-- A call on one slot leaves every other slot as it was, and stores only within its own device context.
+-- Assumes nothing.
+use mathlib.Core.Path.{_≡_, refl, sym, ap, subst, _∙_}
+use mathlib.Core.Logic.{_⊎_, inl, inr, ⊎-elim}
+use mathlib.Core.Bool.{Bool, true, false, not, cond, _&&_}
+use mathlib.Core.List.{List, [], _∷_, _++_}
+use Prim.Native.Nat.{ℕ, _+_, _-_, _*_, _%_, _^_, _≤_, _<_}
+use native.Mathlib.Omega.{arith}
+use native.Mathlib.Decide.{decLt}
+use borrow.Author.Tests.{leb-true, eqb-true}
+use lib.Dec.{leb, eqb}
+use lib.ListN.{length, getD, drop, length-take, List·getD-eq-default}
+use lib.Seq.{getD-set-same}
+use Rattle.guest.specs.Bytes.{number, _⊕_, inside, count, setBits, bit, slotStateByte}
+use Rattle.guest.specs.Prog.{Mem, block, run, Within, Store, stores, Touched, Writes, all, Result, ok, refuse}
+use Rattle.guest.proofs.ListLaws.{All, none, more, all-map, all-at, and-left, and-right, count-all, those-all}
+use Rattle.guest.proofs.RunLaws.{inside-yes}
+use Rattle.guest.proofs.ReadLaws.{applied}
+use Rattle.guest.proofs.StoreLaws.{Runs, store, runs-run, runs-done, runs-last, touched-append}
+use Rattle.definition.specs.Types.{Input, Endpoint, SlotState, Free, Enabled, Default, Addressed, Configured, Slot, Table, Lookup, Used, Nothing}
+use Rattle.definition.specs.Table.{slotNumber, isDisabled, isFree, disabled, free, endpointOf, slotOf, withEndpoint, withSlot, lookup, endpointOk, usedOk, noEndpoint, slotOkIn, slotOk, wellFormed}
+use Rattle.definition.specs.Walks.{Walk, begin}
+use Rattle.definition.specs.Commands as commands
+use Rattle.definition.specs.Commands.{Told, contextState, endpointCall}
+use Rattle.definition.specs.Calls.{Call, setLimit, setDcbaap, enableSlot, disableSlot, addressDevice, configureEndpoint, evaluateContext, resetDevice, resetAll, stopEndpoint, resetEndpoint, setDequeue, doorbell, hostOk, hostStall, hostTransactionError, hostTrbError, meaning, told, prog}
+use Rattle.definition.specs.Rules.{Opened}
+use Rattle.definition.proofs.TableLaws.{IsSlot, IsEndpoint, endpoint-elsewhere, endpoint-slot, slot-other}
+use Rattle.definition.proofs.CountLaws.{Dropping, Adding, Starts, read, over, gives-up, copies, copied, half, settle, slot-runs, check-runs, settled-runs, deconfigure-runs, reconfigure-runs, address-runs, freeing-runs, reach-runs}
+
+-- ---- what is shown
+
+-- the slot id of a call on one slot; 0 for the others
+abbrev pub slotIn : Call → ℕ
+slotIn (setLimit n) = 0
+slotIn (setDcbaap a) = 0
+slotIn enableSlot = 0
+slotIn (disableSlot id) = id
+slotIn (addressDevice id P bsr) = id
+slotIn (configureEndpoint id P dc) = id
+slotIn (evaluateContext id P) = id
+slotIn (resetDevice id) = id
+slotIn resetAll = 0
+slotIn (stopEndpoint id i) = id
+slotIn (resetEndpoint id i) = id
+slotIn (setDequeue id i d) = id
+slotIn (doorbell id i l) = id
+slotIn (hostOk id i l) = id
+slotIn (hostStall id i g) = id
+slotIn (hostTransactionError id i g) = id
+slotIn (hostTrbError id i) = id
+
+-- the base of the slot's device context: where the slot is free afterwards the base before the call, else the base after it
+abbrev pub home : ℕ → Table → Table → ℕ
+home id t u = cond (isFree (slotOf u id)) (slotOf t id .base) (slotOf u id .base)
+
+-- t became u, and the stores ws were made
+pub record Isolated (id : ℕ) (t u : Table) (ws : List Store) : Type 0 where
+  pub slots : (other : ℕ) → 1 ≤ other → (other ≡ id → ⊥) → slotOf u other ≡ slotOf t other
+  pub endpoints : (other j : ℕ) → 1 ≤ other → (other ≡ id → ⊥) → IsEndpoint j → endpointOf u other j ≡ endpointOf t other j
+  pub within : (a : ℕ) → Touched ws a → Within (home id t u) 1024 a
+
+-- ---- a slot in use
+
+not-true : (b : Bool) → not b ≡ true → b ≡ false
+not-true true e = sym e
+not-true false e = refl
+
+-- what a lookup found
+pub used-slot : (t : Table) (id : ℕ) (s : Slot) → lookup t id ≡ Used s → (slotOf t id ≡ s) × IsSlot id × (isFree s ≡ false)
+unfolding lookup
+used-slot t id s u = by (leb 1 id && leb id 16) (not (isFree (slotOf t id))) refl refl u
+  where
+    by : (a b : Bool) → (leb 1 id && leb id 16) ≡ a → not (isFree (slotOf t id)) ≡ b → cond (a && b) (Used (slotOf t id)) Nothing ≡ Used s
+        → (slotOf t id ≡ s) × IsSlot id × (isFree s ≡ false)
+    by true true e d u =
+        let same : slotOf t id ≡ s = cc in
+        (same, (leb-true 1 id (and-left (leb 1 id) (leb id 16) e), leb-true id 16 (and-right (leb 1 id) (leb id 16) e)),
+        subst (λ (r : Slot). isFree r ≡ false) same (not-true (isFree (slotOf t id)) d))
+    by true false e d u = let z : _≡_ {A = ℕ} 0 1 = cc in absurd (omega arith)
+    by false b e d u = let z : _≡_ {A = ℕ} 0 1 = cc in absurd (omega arith)
+
+-- the record of a slot in use lies in the array
+pub used-inside : (t : Table) (id : ℕ) → isFree (slotOf t id) ≡ false → id - 1 < length (t .slots)
+unfolding slotOf
+used-inside t id f = by (decLt (id - 1) (length (t .slots)))
+  where
+    by : Dec (id - 1 < length (t .slots)) → id - 1 < length (t .slots)
+    by (yes h) = h
+    by (no h) =
+        let e : getD (t .slots) (id - 1) free ≡ free = List·getD-eq-default (t .slots) free (omega arith) in
+        let z : isFree free ≡ false = subst (λ (r : Slot). isFree r ≡ false) e f in
+        let y : _≡_ {A = ℕ} 0 1 = cc in absurd (omega arith)
+
+pub length-low : (t : Table) → wellFormed t ≡ true → t .length ≤ 2 ^ 30
+unfolding wellFormed
+length-low t f =
+    leb-true (t .length) 1073741824 (and-right (leb (t .limit) 16) (leb (t .length) 1073741824) (and-left _ (all (count 16 1) (slotOk t)) f))
+
+-- a base lies below the longest memory's end
+pub base-low : (t : Table) (id : ℕ) → wellFormed t ≡ true → IsSlot id → slotOf t id .base ≤ 2 ^ 30
+unfolding wellFormed slotOk usedOk
+base-low t id f n =
+    by (slotOf t id .state) (all-at (slotOk t) 16 1 (and-right (leb (t .limit) 16 && leb (t .length) 1073741824) (all (count 16 1) (slotOk t)) f) id (n .0) (omega arith))
+  where
+    used : usedOk t id (slotOf t id .base) ≡ true → slotOf t id .base ≤ 2 ^ 30
+    used h =
+        omega (arith, length-low t f, inside-yes (t .length) (slotOf t id .base) 64
+          (and-right (not (isDisabled (endpointOf t id 1))) (inside (t .length) (slotOf t id .base) 64)
+          (and-left _ (all (count 31 1) (λ i. endpointOk (t .length) (slotOf t id .base) i (endpointOf t id i))) h)))
+
+    by : (st : SlotState) → slotOkIn st (slotOf t id) t id ≡ true → slotOf t id .base ≤ 2 ^ 30
+    by Free h = omega (arith, eqb-true (slotOf t id .base) 0 (and-left _ (eqb (slotOf t id .entry) 0) (and-left _ (noEndpoint t id) h)))
+    by Enabled h = omega (arith, eqb-true (slotOf t id .base) 0 (and-left _ (noEndpoint t id) h))
+    by Default h = used h
+    by Addressed h = used h
+    by Configured h = used h
+
+-- ---- stores within a device context
+
+record Own (base : ℕ) (ws : List Store) : Type 0 where
+  at : (a : ℕ) → Touched ws a → Within base 1024 a
+
+own-none : (base : ℕ) → Own base []
+unfolding Touched
+own-none base = record { at = λ a h. absurd h }
+
+own-more : (base at : ℕ) (bs : List ℕ) {ws : List Store} → base ≤ at → at + length bs ≤ base + 1024 → Own base ws → Own base (store at bs ∷ ws)
+unfolding Touched
+own-more base at bs h q o = record { at = λ a. ⊎-elim (λ w. omega arith) (o .at a) }
+
+own-append : (base : ℕ) (ws vs : List Store) → Own base ws → Own base vs → Own base (ws ++ vs)
+own-append base ws vs o p = record { at = λ a h. ⊎-elim (o .at a) (p .at a) (touched-append ws vs a h) }
+
+-- ---- walks
+
+-- a walk over slot id's endpoints, from the table t
+record Aside (t : Table) (id base : ℕ) (is : List ℕ) (ws : List Store) (w : Walk) : Type 0 where
+  left : All IsEndpoint is
+  slots : w .table .slots ≡ t .slots
+  endpoints : (other j : ℕ) → 1 ≤ other → (other ≡ id → ⊥) → IsEndpoint j → endpointOf (w .table) other j ≡ endpointOf t other j
+  own : Own base ws
+
+aside-begin : (t : Table) (id base : ℕ) {is : List ℕ} → All IsEndpoint is → Aside t id base is [] (begin t)
+aside-begin t id base a = record { left = a; slots = refl; endpoints = λ other j _ _ _. refl; own = own-none base }
+
+all-head : {P : ℕ → Type 0} {i : ℕ} {is : List ℕ} → All P (i ∷ is) → P i × All P is
+all-head (more p a) = (p, a)
+
+module _ (t : Table) (id base : ℕ) (some : 1 ≤ id) (low : base ≤ 2 ^ 30) where
+  -- endpoint i becomes e, and what is stored lies in the context
+  aside-one : (i : ℕ) (is : List ℕ) (ws vs : List Store) (w v : Walk) (e : Endpoint) → v .table ≡ withEndpoint (w .table) id i e → (IsEndpoint i → Own base vs)
+      → Aside t id base (i ∷ is) ws w → Aside t id base is (ws ++ vs) v
+  unfolding withEndpoint
+  aside-one i is ws vs w v e same o a =
+      let h = all-head (a .left) in
+      record {
+        left = h .1;
+        slots = ap (λ (u : Table). u .slots) same ∙ a .slots;
+        endpoints = λ other j b n k.
+            ap (λ (u : Table). endpointOf u other j) same ∙ endpoint-elsewhere (w .table) id i other j e some b n (h .0) k ∙ a .endpoints other j b n k;
+        own = own-append base ws vs (a .own) (o (h .0));
+      }
+
+  aside-drops : Dropping id base (Aside t id base)
+  aside-drops =
+      record {
+        skip = λ i is ws w a. record { left = all-head (a .left) .1; slots = a .slots; endpoints = a .endpoints; own = a .own };
+        go = λ i is ws w a _.
+            aside-one i is ws _ w _ disabled refl (λ n. own-more base (base ⊕ 32 * i) (0 ∷ []) (omega arith) (omega arith) (own-none base)) a;
+      }
+
+  aside-joins : (m : Mem) (P : ℕ) → Adding m id P base (Aside t id base)
+  aside-joins m P =
+      record {
+        turn = λ i is ws w a.
+            aside-one i is ws _ w _ _ refl
+            (λ n. own-more base (base ⊕ 32 * i) (block (applied m ws) (P ⊕ 32 * (i + 1)) 32) (omega arith)
+            (omega (arith, length-take 32 (drop (P ⊕ 32 * (i + 1)) (applied m ws))))
+            (own-more base (base ⊕ 32 * i) (1 ∷ []) (omega arith) (omega arith) (own-none base))) a;
+      }
+
+  -- the slot changes at the end
+  module _ (inside : id - 1 < length (t .slots)) (ws : List Store) (w : Walk) (a : Aside t id base [] ws w) where
+    slot-set : (s : Slot) → slotOf (withSlot (w .table) id s) id ≡ s
+    unfolding slotOf withSlot
+    slot-set s = getD-set-same (w .table .slots) (id - 1) s free (rw (a .slots) inside)
+
+    aside-slot : (s : Slot) → home id t (withSlot (w .table) id s) ≡ base → Isolated id t (withSlot (w .table) id s) ws
+    unfolding slotOf
+    aside-slot s e =
+        record {
+          slots = λ other b n. slot-other (w .table) id s other some b n ∙ rw (a .slots);
+          endpoints = λ other j b n k. endpoint-slot (w .table) id s other j ∙ a .endpoints other j b n k;
+          within = λ b q. subst (λ (x : ℕ). Within x 1024 b) (sym e) (a .own .at b q);
+        }
+
+    aside-settled : (nxt : SlotState) (entry : ℕ) → eqb (slotNumber nxt) 0 ≡ false
+        → Isolated id t (withSlot (w .table) id (record { state = nxt; base = base; entry = entry })) ws
+    aside-settled nxt entry n = aside-slot _ (rw (slot-set (record { state = nxt; base = base; entry = entry }), n))
+
+    aside-freed : slotOf t id .base ≡ base → Isolated id t (withSlot (w .table) id free) ws
+    aside-freed e = aside-slot _ (rw (slot-set free, e))
+
+-- ---- commands
+
+-- endpoints 2 to 31, and those of them whose bit is set
+later : All IsEndpoint (count 30 2)
+later = count-all IsEndpoint 30 2 (λ j a b. omega arith)
+
+flagged : (x : ℕ) → All IsEndpoint (setBits 30 2 x)
+flagged x = all-map (λ i h. h .0) (those-all IsEndpoint (bit x) (count 30 2) later)
+
+module _ (t : Table) (m : Mem) (id : ℕ) where
+  -- what is shown of a call's program
+  abbrev Alone : List Store → Result Told → Type 0
+  Alone ws r = Isolated id t (told t r .1) ws
+
+  refused : (c : ℕ) → Alone [] (refuse c)
+  unfolding Touched
+  refused c = record { slots = λ other _ _. refl; endpoints = λ other j _ _ _. refl; within = λ a h. absurd h }
+
+  -- past 198, 194 and 11
+  record Known (s : Slot) : Type 0 where
+    same : slotOf t id ≡ s
+    is : IsSlot id
+    used : isFree s ≡ false
+    low : s .base ≤ 2 ^ 30
+    inside : id - 1 < length (t .slots)
+
+  known : (s : Slot) → Opened t m id s → Known s
+  known s o =
+      let u = used-slot t id s (o .used) in
+      record {
+        same = u .0; is = u .1; used = u .2;
+        low = subst (λ (r : Slot). r .base ≤ 2 ^ 30) (u .0) (base-low t id (o .formed) (u .1));
+        inside = used-inside t id (rw (u .0) (u .2));
+      }
+
+  module _ (s : Slot) (k : Known s) where
+    -- the slot's state byte is stored last
+    finish-alone : (ws : List Store) (w : Walk) (nxt : SlotState) → eqb (slotNumber nxt) 0 ≡ false → Aside t id (s .base) [] ws w
+        → Alone (ws ++ store (s .base + 15) (slotStateByte (contextState nxt) ∷ []) ∷ []) (ok (settle id nxt (s .base) (s .entry) w))
+    finish-alone ws w nxt n a =
+        aside-settled t id (s .base) (k .is .0) (k .low) (k .inside) _ w
+        (record {
+          left = none; slots = a .slots; endpoints = a .endpoints;
+          own = own-append (s .base) ws _ (a .own) (own-more (s .base) (s .base + 15) _ (omega arith) (omega arith) (own-none (s .base)));
+        }) nxt (s .entry) n
+
+    deconfigure-alone : (nxt : SlotState) → eqb (slotNumber nxt) 0 ≡ false → Runs (commands.deconfigure id s nxt t) m Alone
+    deconfigure-alone nxt n =
+        deconfigure-runs id s t nxt (aside-drops t id (s .base) (k .is .0) (k .low)) (aside-begin t id (s .base) later) (λ ws w a. finish-alone ws w nxt n a)
+
+    reconfigure-alone : (accepts : ℕ → Bool) (P : ℕ) → Runs (commands.reconfigure accepts id P s (length m) t) m Alone
+    reconfigure-alone accepts P =
+        reconfigure-runs id s t refused accepts (length m) P (aside-drops t id (s .base) (k .is .0) (k .low)) (aside-joins t id (s .base) (k .is .0) (k .low) m P)
+        (λ _ ws w a. record { left = flagged _; slots = a .slots; endpoints = a .endpoints; own = a .own })
+        (aside-begin t id (s .base) (flagged _)) (λ ws w a. finish-alone ws w Configured refl a)
