@@ -24,7 +24,7 @@ use Rattle.definition.specs.Commands as commands
 use Rattle.definition.specs.Commands.{Told, contextState, endpointCall}
 use Rattle.definition.specs.Calls.{Call, setLimit, setDcbaap, enableSlot, disableSlot, addressDevice, configureEndpoint, evaluateContext, resetDevice, resetAll, stopEndpoint, resetEndpoint, setDequeue, doorbell, hostOk, hostStall, hostTransactionError, hostTrbError, meaning, told, prog}
 use Rattle.definition.specs.Rules.{Opened}
-use Rattle.definition.proofs.TableLaws.{IsSlot, IsEndpoint, endpoint-elsewhere, endpoint-slot, slot-other}
+use Rattle.definition.proofs.TableLaws.{IsSlot, IsEndpoint, endpoint-elsewhere, endpoint-slot, slot-other, slot-endpoint}
 use Rattle.definition.proofs.CountLaws.{Dropping, Adding, Starts, read, over, gives-up, copies, copied, half, settle, slot-runs, check-runs, settled-runs, deconfigure-runs, reconfigure-runs, address-runs, freeing-runs, reach-runs}
 
 -- ---- what is shown
@@ -210,6 +210,9 @@ later = count-all IsEndpoint 30 2 (λ j a b. omega arith)
 flagged : (x : ℕ) → All IsEndpoint (setBits 30 2 x)
 flagged x = all-map (λ i h. h .0) (those-all IsEndpoint (bit x) (count 30 2) later)
 
+one : All IsEndpoint (1 ∷ [])
+one = more {i = 1} (omega arith) none
+
 module _ (t : Table) (m : Mem) (id : ℕ) where
   -- what is shown of a call's program
   abbrev Alone : List Store → Result Told → Type 0
@@ -256,3 +259,83 @@ module _ (t : Table) (m : Mem) (id : ℕ) where
         reconfigure-runs id s t refused accepts (length m) P (aside-drops t id (s .base) (k .is .0) (k .low)) (aside-joins t id (s .base) (k .is .0) (k .low) m P)
         (λ _ ws w a. record { left = flagged _; slots = a .slots; endpoints = a .endpoints; own = a .own })
         (aside-begin t id (s .base) (flagged _)) (λ ws w a. finish-alone ws w Configured refl a)
+
+    -- the base that Address Device goes by lies as low as a kept one
+    begins-alone : {ws : List Store} {base : ℕ} {w : Walk} → base ≤ 2 ^ 30 → Starts m id s t ws base w → Aside t id base (1 ∷ []) ws w
+    begins-alone low (read e) = aside-begin t id _ one
+    begins-alone low (over e) = aside-begin t id _ one
+    begins-alone low (gives-up e) =
+        aside-one t id (s .base) (k .is .0) low 1 (1 ∷ []) [] _ (begin t) _ disabled refl
+        (λ n. own-more (s .base) (s .base ⊕ 32 * 1) (0 ∷ []) (omega arith) (omega arith) (own-none (s .base))) (aside-begin t id (s .base) (more {i = 1} (omega arith) one))
+
+    address-alone : (P : ℕ) (bsr : Bool) → t .length ≡ length m → wellFormed t ≡ true
+        → Runs (commands.carryOut (length m) P t id s (commands.plan (s .state) bsr)) m Alone
+    address-alone P bsr size f =
+        address-runs id s t refused (length m) P bsr
+        (λ ws base nxt w b n _ h.
+        let low : base ≤ 2 ^ 30 = omega (arith, length-low t f) in
+        aside-settled t id base (k .is .0) low (k .inside) _ (copied (applied m ws) (P ⊕ 32) id base nxt w)
+        (aside-one t id base (k .is .0) low 1 [] ws (copies (applied m ws) (P ⊕ 32) base nxt) w _ _ refl (λ _. copies-own (applied m ws) base nxt low) (begins-alone low b)) nxt (s .entry) n)
+      where
+        copies-own : (n : Mem) (base : ℕ) (nxt : SlotState) → base ≤ 2 ^ 30 → Own base (copies n (P ⊕ 32) base nxt)
+        copies-own n base nxt low =
+            own-more base base (block n (P ⊕ 32) 32) (omega arith) (omega (arith, length-take 32 (drop (P ⊕ 32) n)))
+            (own-more base (base + 15) _ (omega arith) (omega arith)
+            (own-more base (base ⊕ 32 * 1) (block (half n (P ⊕ 32) base nxt) ((P ⊕ 32) + 32) 32) (omega arith)
+            (omega (arith, length-take 32 (drop ((P ⊕ 32) + 32) (half n (P ⊕ 32) base nxt))))
+            (own-more base (base ⊕ 32 * 1) (1 ∷ []) (omega arith) (omega arith) (own-none base))))
+
+    disable-alone : Runs (commands.freeing id t) m (λ ws w. Isolated id t (w .table) ws)
+    disable-alone =
+        let low : slotOf t id .base ≤ 2 ^ 30 = rw (k .same) (k .low) in
+        freeing-runs id t (aside-drops t id (slotOf t id .base) (k .is .0) low) (aside-begin t id _ (count-all IsEndpoint 31 1 (λ j a b. omega arith)))
+        (λ ws w a. aside-freed t id (slotOf t id .base) (k .is .0) low (k .inside) ws w a refl)
+
+  reach-alone : (noSlot noEndpoint i : ℕ) (input : Input) → Runs (endpointCall noSlot noEndpoint id i input (length m) t) m Alone
+  reach-alone noSlot noEndpoint i input =
+      reach-runs refused noSlot noEndpoint id i input t
+      (λ s ws r o e _ w.
+      let k = known s o in
+      record {
+        slots = λ other _ _. slot-endpoint t id i (r .endpoint) other;
+        endpoints = λ other j b n q. endpoint-elsewhere t id i other j (r .endpoint) (k .is .0) b n e q;
+        within = λ a h.
+            let base : home id t (withEndpoint t id i (r .endpoint)) ≡ s .base = rw (slot-endpoint t id i (r .endpoint) id, k .same, k .used) in
+            subst (λ (x : ℕ). Within x 1024 a) (sym base) (omega (arith, w a h, k .low));
+      })
+
+-- ---- the law
+
+alone : (c : Call) (t : Table) (m : Mem) → 1 ≤ slotIn c → Runs (meaning c (length m) t) m (Alone t m (slotIn c))
+unfolding meaning commands.disableSlot commands.addressDevice commands.configureEndpoint commands.evaluateContext commands.resetDevice
+alone (setLimit n) t m h = absurd (omega arith)
+alone (setDcbaap a) t m h = absurd (omega arith)
+alone enableSlot t m h = absurd (omega arith)
+alone (disableSlot id) t m h = slot-runs (refused t m id) 11 t id _ (λ s o. runs-last _ (disable-alone t m id s (known t m id s o)))
+alone (addressDevice id P bsr) t m h =
+    slot-runs (refused t m id) 11 t id _
+    (λ s o. check-runs (refused t m id) _ (length m) P _ (address-alone t m id s (known t m id s o) P bsr (o .size) (o .formed)))
+alone (configureEndpoint id P true) t m h =
+    slot-runs (refused t m id) 11 t id _
+    (λ s o. settled-runs (refused t m id) (s .state) (λ _. deconfigure-alone t m id s (known t m id s o) Addressed refl))
+alone (configureEndpoint id P false) t m h =
+    slot-runs (refused t m id) 11 t id _ (λ s o. settled-runs (refused t m id) (s .state) (λ _. reconfigure-alone t m id s (known t m id s o) _ P))
+alone (evaluateContext id P) t m h = slot-runs (refused t m id) 11 t id _ (λ s o. check-runs (refused t m id) _ (length m) P _ (runs-done (refused t m id 1)))
+alone (resetDevice id) t m h =
+    slot-runs (refused t m id) 11 t id _
+    (λ s o. settled-runs (refused t m id) (s .state) (λ _. deconfigure-alone t m id s (known t m id s o) Default refl))
+alone resetAll t m h = absurd (omega arith)
+alone (stopEndpoint id i) t m h = reach-alone t m id 11 12 i _
+alone (resetEndpoint id i) t m h = reach-alone t m id 11 12 i _
+alone (setDequeue id i d) t m h = reach-alone t m id 11 12 i _
+alone (doorbell id i l) t m h = reach-alone t m id 11 12 i _
+alone (hostOk id i l) t m h = reach-alone t m id 196 196 i _
+alone (hostStall id i g) t m h = reach-alone t m id 196 196 i _
+alone (hostTransactionError id i g) t m h = reach-alone t m id 196 196 i _
+alone (hostTrbError id i) t m h = reach-alone t m id 196 196 i _
+
+-- a call on one slot, whatever the table and the memory
+pub isolation : (c : Call) (t : Table) (m : Mem) → 1 ≤ slotIn c
+    → Isolated (slotIn c) t (run (prog c (length m) t) m 0 .value .1) (stores (prog c (length m) t) m)
+unfolding prog
+isolation c t m h = runs-run (runs-last (told t) {R = λ ws x. Isolated (slotIn c) t (x .1) ws} (alone c t m h)) 0
