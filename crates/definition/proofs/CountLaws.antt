@@ -7,15 +7,14 @@ use mathlib.Core.List.{List, [], _∷_, _++_, append-nil, append-assoc}
 use Prim.Native.Nat.{ℕ, zero, suc, _+_, _*_, _^_, _≤_}
 use native.Mathlib.Nat.{add-zero}
 use native.Mathlib.Omega.{arith}
-use borrow.Author.Tests.{eqb-true, leb-true}
+use borrow.Author.Tests.{ltb-true, eqb-true, leb-true}
 use lib.Dec.{leb, eqb}
 use lib.ListN.{length, length-take}
 use Rattle.guest.specs.Bytes.{count, setBits, slotStateByte, number, bytes, _⊕_, pointerOf, cycleOf}
 use Rattle.guest.specs.Prog.{Mem, Prog, done, get, put, block, splice, Within, Store, stores, Touched, choose, each, Result, ok, refuse, andThen, passed}
 use Rattle.guest.proofs.ListLaws.{All, and-left, and-right}
-use Rattle.guest.proofs.FormLaws.{refuse-ok}
 use Rattle.guest.proofs.ReadLaws.{applied, total}
-use Rattle.guest.proofs.StoreLaws.{Runs, store, runs-done, runs-get, runs-put, runs-choose, runs-need, runs-bind, runs-last, runs-then, runs-every, runs-map, runs-each, each-from}
+use Rattle.guest.proofs.StoreLaws.{Runs, store, runs-done, runs-get, runs-put, runs-choose, runs-need, runs-bind, runs-last, Quietly, runs-then, runs-every, runs-map, runs-each, each-from}
 use Rattle.definition.specs.Types.{Endpoint, Waiting, Input, SlotState, Free, Enabled, Default, Addressed, Configured, Slot, Table, Lookup, Used, Nothing, Row, Report}
 use Rattle.definition.specs.Table.{slotNumber, isDisabled, isFree, disabled, free, endpointOf, slotOf, withEndpoint, withSlot, lookup, wellFormed}
 use Rattle.definition.specs.Steps.{Stepped, entry, reportOf, stepBy, step, launchAt, terminateAt}
@@ -59,12 +58,12 @@ unfolding copyLaunch launch launchAt
 copy-runs id base c i w h = runs-get (runs-put (runs-get (runs-last _ (runs-put (runs-get (runs-done h))))))
 
 -- a step stores at most nine bytes, all in the context
-pub step-runs : {m : Mem} {R : List Store → Result Stepped → Type 0} (e : Endpoint) (input : Input) (at : ℕ) → ((c : ℕ) → R [] (refuse c))
+pub step-runs : {m : Mem} {R : List Store → Result Stepped → Type 0} (e : Endpoint) (input : Input) (at : ℕ) → ((c : ℕ) → 2 ≤ c → R [] (refuse c))
     → ((ws : List Store) (r : Stepped) → total ws ≤ 9 → ((a : ℕ) → Touched ws a → Within at 32 a) → R ws (ok r)) → Runs (step e input at) m R
 unfolding step stepBy total Touched bytes
 step-runs {m} {R} e input at r f =
-    runs-choose (λ _. runs-done (r _))
-    (λ _. runs-choose (λ _. runs-done (r _))
+    runs-choose (λ h. runs-done (r _ (ltb-true 1 _ h)))
+    (λ _. runs-choose (λ _. runs-done (r 195 (omega arith)))
     (λ _. runs-choose
     (λ _. runs-put (runs-choose
     (λ _. runs-put (runs-done (f _ _ (omega arith) (λ a. ⊎-elim (λ h. omega arith) (⊎-elim (λ h. omega arith) (λ h. absurd h))))))
@@ -75,53 +74,49 @@ step-runs {m} {R} e input at r f =
 
 -- ---- the checks before a command
 
-module _ {A : Type 0} {m : Mem} {R : List Store → Result A → Type 0} (refused : (c : ℕ) → R [] (refuse c)) where
+module _ {A : Type 0} {m : Mem} {R : List Store → Result A → Type 0} (refused : (c : ℕ) → 2 ≤ c → R [] (refuse c)) where
   pub formed-runs : (t : Table) {p : Prog (Result A)} → (wellFormed t ≡ true → Runs p m R) → Runs (formed t p) m R
   unfolding formed
-  formed-runs t f = runs-choose f (λ _. runs-done (refused 198))
+  formed-runs t f = runs-choose f (λ _. runs-done (refused 198 (omega arith)))
 
   pub lent-runs : (t : Table) (len : ℕ) {p : Prog (Result A)} → (t .length ≡ len → Runs p m R) → Runs (lent t len p) m R
   unfolding lent
-  lent-runs t len f = runs-choose (λ e. f (eqb-true (t .length) len e)) (λ _. runs-done (refused 194))
+  lent-runs t len f = runs-choose (λ e. f (eqb-true (t .length) len e)) (λ _. runs-done (refused 194 (omega arith)))
 
-  pub slot-runs : (absent : ℕ) (t : Table) (id : ℕ) (f : Slot → Prog (Result A)) → ((s : Slot) → Opened t m id s → Runs (f s) m R)
+  pub slot-runs : (absent : ℕ) → 2 ≤ absent → (t : Table) (id : ℕ) (f : Slot → Prog (Result A)) → ((s : Slot) → Opened t m id s → Runs (f s) m R)
       → Runs (onSlot absent t (length m) id f) m R
   unfolding onSlot
-  slot-runs absent t id f g = formed-runs t (λ w. lent-runs t (length m) (λ e. by w e (lookup t id) refl))
+  slot-runs absent some t id f g = formed-runs t (λ w. lent-runs t (length m) (λ e. by w e (lookup t id) refl))
     where
       by : wellFormed t ≡ true → t .length ≡ length m → (l : Lookup) → lookup t id ≡ l → Runs (found l (done (refuse absent)) f) m R
       by w e (Used s) u = g s (record { formed = w; size = e; used = u })
-      by w e Nothing u = runs-done (refused absent)
+      by w e Nothing u = runs-done (refused absent some)
 
   -- the context check gives the add flags
   pub check-runs : (accepts : ℕ → Bool) (len P : ℕ) (f : ℕ → Prog (Result A)) → Runs (f (number (block m (P ⊕ 4) 4))) m R
       → Runs (andThen (contextCheck accepts len P) f) m R
   unfolding contextCheck checkType
   check-runs accepts len P f g =
-      runs-then (λ adds. adds ≡ number (block m (P ⊕ 4) 4))
-      (runs-need _ _ (refused-value 193)
-      (λ _. runs-get (runs-every (λ _. Unit) (λ i. runs-need _ _ (refl, λ x e. tt) (λ _. runs-get (runs-choose (λ _. runs-done (refl, λ x e. tt)) (λ _. runs-done (refl, λ x e. tt)))))
-      refused-value (λ _. runs-done (refl, λ x e. cc)))))
+      runs-then (λ c. 2 ≤ c) (λ adds. adds ≡ number (block m (P ⊕ 4) 4))
+      (runs-need _ _ (refl, omega arith)
+      (λ _. runs-get (runs-every (λ c. 2 ≤ c) (λ _. Unit)
+      (λ i. runs-need _ _ (refl, omega arith) (λ _. runs-get (runs-choose (λ _. runs-done (refl, tt)) (λ _. runs-done (refl, omega arith)))))
+      (λ c h. (refl, h)) (λ _. runs-done (refl, refl)))))
       refused (λ adds e. rw e g)
-    where
-      refused-value : (c : ℕ) → (_≡_ {A = List Store} [] []) × ((x : ℕ) → refuse c ≡ ok x → x ≡ number (block m (P ⊕ 4) 4))
-      refused-value c = (refl, λ x e. absurd (refuse-ok c x e))
 
   pub settled-runs : (s : SlotState) {p : Prog (Result A)} → (Settled s → Runs p m R) → Runs (settled s p) m R
   unfolding settled
-  settled-runs Free f = runs-done (refused 19)
-  settled-runs Enabled f = runs-done (refused 19)
-  settled-runs Default f = runs-done (refused 19)
+  settled-runs Free f = runs-done (refused 19 (omega arith))
+  settled-runs Enabled f = runs-done (refused 19 (omega arith))
+  settled-runs Default f = runs-done (refused 19 (omega arith))
   settled-runs Addressed f = f isAddressed
   settled-runs Configured f = f isConfigured
 
 -- both contexts of an added endpoint lie in memory
 pub contexts-runs : {m : Mem} (len P base i : ℕ)
-    → Runs (needContexts len P base i) m (λ ws r. (ws ≡ []) × ((x : Unit) → r ≡ ok x → ((P ⊕ 32 * (i + 1)) + 32 ≤ len) × ((base ⊕ 32 * i) + 32 ≤ len)))
+    → Runs (needContexts len P base i) m (Quietly (λ c. 2 ≤ c) (λ _. ((P ⊕ 32 * (i + 1)) + 32 ≤ len) × ((base ⊕ 32 * i) + 32 ≤ len)))
 unfolding needContexts
-contexts-runs len P base i =
-    runs-need _ _ (refl, λ x e. absurd (refuse-ok 193 x e))
-    (λ a. runs-need _ _ (refl, λ x e. absurd (refuse-ok 193 x e)) (λ b. runs-done (refl, λ x e. (a, b))))
+contexts-runs len P base i = runs-need _ _ (refl, omega arith) (λ a. runs-need _ _ (refl, omega arith) (λ b. runs-done (refl, (a, b))))
 
 -- ---- walks over endpoints: I holds of the endpoints left, of the stores so far and of the walk so far
 
@@ -194,7 +189,7 @@ module _ {m : Mem} {R : List Store → Result Told → Type 0} (id : ℕ) (s : S
   deconfigure-runs next {I} e h g = runs-bind (I []) (terminate-all-runs id (s .base) (count 30 2) (begin t) e h) (λ ws w q. runs-put (runs-done (g ws w q)))
 
   -- the walk of the drops holds J, that of the adds K
-  pub reconfigure-runs : ((c : ℕ) → R [] (refuse c)) → (accepts : ℕ → Bool) (len P : ℕ) {J K : Held} → Dropping id (s .base) J → Adding m id P (s .base) K
+  pub reconfigure-runs : ((c : ℕ) → 2 ≤ c → R [] (refuse c)) → (accepts : ℕ → Bool) (len P : ℕ) {J K : Held} → Dropping id (s .base) J → Adding m id P (s .base) K
       → (let adds = setBits 30 2 (number (block m (P ⊕ 4) 4)) in
         All (λ i. ((P ⊕ 32 * (i + 1)) + 32 ≤ len) × ((s .base ⊕ 32 * i) + 32 ≤ len)) adds → (ws : List Store) (w : Walk) → J [] ws w → K adds ws w)
       → J (setBits 30 2 (number (block m P 4))) [] (begin t)
@@ -204,14 +199,14 @@ module _ {m : Mem} {R : List Store → Result Told → Type 0} (id : ℕ) (s : S
   unfolding reconfigure finish
   reconfigure-runs r accepts len P {J} {K} e f g h k =
       check-runs r accepts len P _
-      (runs-need _ _ (r 193)
-      (λ _. runs-get (runs-every _ (λ i. contexts-runs len P (s .base) i) r
+      (runs-need _ _ (r 193 (omega arith))
+      (λ _. runs-get (runs-every _ _ (λ i. contexts-runs len P (s .base) i) r
       (λ a. runs-bind (J []) (terminate-all-runs id (s .base) _ (begin t) e h)
       (λ ws w q. runs-bind (λ vs v. K [] (ws ++ vs) v) (add-all-runs _ ws w f (g a ws w q))
       (λ vs v q. runs-put (runs-done (rw (← append-assoc ws vs (store (s .base + 15) (slotStateByte (contextState Configured) ∷ []) ∷ [])) (k (ws ++ vs) v q)))))))))
 
   -- "Address Device": the copies follow the stores ws
-  pub address-runs : ((c : ℕ) → R [] (refuse c)) → (len P : ℕ) (bsr : Bool)
+  pub address-runs : ((c : ℕ) → 2 ≤ c → R [] (refuse c)) → (len P : ℕ) (bsr : Bool)
       → ((ws : List Store) (base : ℕ) (next : SlotState) (w : Walk) → Starts m id s t ws base w → eqb (slotNumber next) 0 ≡ false
       → (P ⊕ 32) + 64 ≤ len → base + 64 ≤ len
       → R (ws ++ copies (applied m ws) (P ⊕ 32) base next) (ok (settle id next base (s .entry) (copied (applied m ws) (P ⊕ 32) id base next w))))
@@ -221,28 +216,28 @@ module _ {m : Mem} {R : List Store → Result Told → Type 0} (id : ℕ) (s : S
     where
       fresh-runs : s .state ≡ Enabled → (next : SlotState) → eqb (slotNumber next) 0 ≡ false → Runs (carryOut len P t id s (fresh next)) m R
       fresh-runs e next n =
-          runs-need _ _ (r 193)
-          (λ _. runs-get (runs-need _ _ (r 193)
-          (λ a. runs-need _ _ (r 193)
+          runs-need _ _ (r 193 (omega arith))
+          (λ _. runs-get (runs-need _ _ (r 193 (omega arith))
+          (λ a. runs-need _ _ (r 193 (omega arith))
           (λ b. runs-get (runs-put (runs-put (runs-last _ (copy-runs id _ _ 1 (begin t) (g [] _ next (begin t) (read e) n a b)))))))))
 
       again-runs : s .state ≡ Default → (next : SlotState) → eqb (slotNumber next) 0 ≡ false → Runs (carryOut len P t id s (again next)) m R
       again-runs e next n =
-          runs-need _ _ (r 193)
-          (λ a. runs-need _ _ (r 193)
+          runs-need _ _ (r 193 (omega arith))
+          (λ a. runs-need _ _ (r 193 (omega arith))
           (λ b. runs-bind
           (λ ws w. Starts m id s t ws (s .base) w)
           (terminate-runs id (s .base) 1 (begin t) (λ _. over e) (λ _. gives-up e))
           (λ ws w q. runs-get (runs-put (runs-put (runs-last _ (copy-runs id _ _ 1 w (g ws _ next w q n a b))))))))
 
       by : (st : SlotState) (bsr : Bool) → s .state ≡ st → Runs (carryOut len P t id s (plan st bsr)) m R
-      by Free bsr e = runs-done (r 19)
+      by Free bsr e = runs-done (r 19 (omega arith))
       by Enabled true e = fresh-runs e Default refl
       by Enabled false e = fresh-runs e Addressed refl
-      by Default true e = runs-done (r 19)
+      by Default true e = runs-done (r 19 (omega arith))
       by Default false e = again-runs e Addressed refl
-      by Addressed bsr e = runs-done (r 19)
-      by Configured bsr e = runs-done (r 19)
+      by Addressed bsr e = runs-done (r 19 (omega arith))
+      by Configured bsr e = runs-done (r 19 (omega arith))
 
 -- "terminates all endpoints ascending and frees the slot"
 pub freeing-runs : {m : Mem} {R : List Store → Walk → Type 0} (id : ℕ) (t : Table) {I : Held} → Dropping id (slotOf t id .base) I → I (count 31 1) [] (begin t)
@@ -253,17 +248,17 @@ unfolding freeing
 freeing-runs id t e h g = runs-last _ (runs-map g (terminate-all-runs id (slotOf t id .base) (count 31 1) (begin t) e h))
 
 -- a call that reaches one endpoint
-pub reach-runs : {m : Mem} {R : List Store → Result Told → Type 0} → ((c : ℕ) → R [] (refuse c)) → (noSlot noEndpoint id i : ℕ) (input : Input) (t : Table)
+pub reach-runs : {m : Mem} {R : List Store → Result Told → Type 0} → ((c : ℕ) → 2 ≤ c → R [] (refuse c)) → (noSlot noEndpoint id i : ℕ) → 2 ≤ noSlot → 2 ≤ noEndpoint → (input : Input) (t : Table)
     → ((s : Slot) (ws : List Store) (r : Stepped) → Opened t m id s → IsEndpoint i → total ws ≤ 9 → ((a : ℕ) → Touched ws a → Within (s .base ⊕ 32 * i) 32 a)
     → R ws (ok (stepped r, withEndpoint t id i (r .endpoint))))
     → Runs (endpointCall noSlot noEndpoint id i input (length m) t) m R
 unfolding endpointCall onEndpoint andThen passed
-reach-runs {m} {R} r noSlot noEndpoint id i input t g =
-    slot-runs r noSlot t id _
+reach-runs {m} {R} r noSlot noEndpoint id i p q input t g =
+    slot-runs r noSlot p t id _
     (λ s o. runs-choose
     (λ e. runs-bind (λ ws x. R ws (by x))
     (step-runs (endpointOf t id i) input (s .base ⊕ 32 * i) r (λ ws x n w. g s ws x o (is-endpoint e) n w)) (λ ws x q. rest ws x q))
-    (λ _. runs-done (r noEndpoint)))
+    (λ _. runs-done (r noEndpoint q)))
   where
     by : Result Stepped → Result Told
     by (ok x) = ok (stepped x, withEndpoint t id i (x .endpoint))

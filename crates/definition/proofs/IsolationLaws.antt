@@ -218,9 +218,12 @@ module _ (t : Table) (m : Mem) (id : ℕ) where
   abbrev Alone : List Store → Result Told → Type 0
   Alone ws r = Isolated id t (told t r .1) ws
 
-  refused : (c : ℕ) → Alone [] (refuse c)
+  same-table : (c : ℕ) → Alone [] (refuse c)
   unfolding Touched
-  refused c = record { slots = λ other _ _. refl; endpoints = λ other j _ _ _. refl; within = λ a h. absurd h }
+  same-table c = record { slots = λ other _ _. refl; endpoints = λ other j _ _ _. refl; within = λ a h. absurd h }
+
+  refused : (c : ℕ) → 2 ≤ c → Alone [] (refuse c)
+  refused c _ = same-table c
 
   -- past 198, 194 and 11
   record Known (s : Slot) : Type 0 where
@@ -291,14 +294,14 @@ module _ (t : Table) (m : Mem) (id : ℕ) where
         freeing-runs id t (aside-drops t id (slotOf t id .base) (k .is .0) low) (aside-begin t id _ (count-all IsEndpoint 31 1 (λ j a b. omega arith)))
         (λ ws w a. aside-freed t id (slotOf t id .base) (k .is .0) low (k .inside) ws w a refl)
 
-  reach-alone : (noSlot noEndpoint i : ℕ) (input : Input) → Runs (endpointCall noSlot noEndpoint id i input (length m) t) m Alone
-  reach-alone noSlot noEndpoint i input =
-      reach-runs refused noSlot noEndpoint id i input t
+  reach-alone : (noSlot noEndpoint i : ℕ) → 2 ≤ noSlot → 2 ≤ noEndpoint → (input : Input) → Runs (endpointCall noSlot noEndpoint id i input (length m) t) m Alone
+  reach-alone noSlot noEndpoint i p q input =
+      reach-runs refused noSlot noEndpoint id i p q input t
       (λ s ws r o e _ w.
       let k = known s o in
       record {
         slots = λ other _ _. slot-endpoint t id i (r .endpoint) other;
-        endpoints = λ other j b n q. endpoint-elsewhere t id i other j (r .endpoint) (k .is .0) b n e q;
+        endpoints = λ other j b n d. endpoint-elsewhere t id i other j (r .endpoint) (k .is .0) b n e d;
         within = λ a h.
             let base : home id t (withEndpoint t id i (r .endpoint)) ≡ s .base = rw (slot-endpoint t id i (r .endpoint) id, k .same, k .used) in
             subst (λ (x : ℕ). Within x 1024 a) (sym base) (omega (arith, w a h, k .low));
@@ -311,28 +314,28 @@ unfolding meaning commands.disableSlot commands.addressDevice commands.configure
 alone (setLimit n) t m h = absurd (omega arith)
 alone (setDcbaap a) t m h = absurd (omega arith)
 alone enableSlot t m h = absurd (omega arith)
-alone (disableSlot id) t m h = slot-runs (refused t m id) 11 t id _ (λ s o. runs-last _ (disable-alone t m id s (known t m id s o)))
+alone (disableSlot id) t m h = slot-runs (refused t m id) 11 (omega arith) t id _ (λ s o. runs-last _ (disable-alone t m id s (known t m id s o)))
 alone (addressDevice id P bsr) t m h =
-    slot-runs (refused t m id) 11 t id _
+    slot-runs (refused t m id) 11 (omega arith) t id _
     (λ s o. check-runs (refused t m id) _ (length m) P _ (address-alone t m id s (known t m id s o) P bsr (o .size) (o .formed)))
 alone (configureEndpoint id P true) t m h =
-    slot-runs (refused t m id) 11 t id _
+    slot-runs (refused t m id) 11 (omega arith) t id _
     (λ s o. settled-runs (refused t m id) (s .state) (λ _. deconfigure-alone t m id s (known t m id s o) Addressed refl))
 alone (configureEndpoint id P false) t m h =
-    slot-runs (refused t m id) 11 t id _ (λ s o. settled-runs (refused t m id) (s .state) (λ _. reconfigure-alone t m id s (known t m id s o) _ P))
-alone (evaluateContext id P) t m h = slot-runs (refused t m id) 11 t id _ (λ s o. check-runs (refused t m id) _ (length m) P _ (runs-done (refused t m id 1)))
+    slot-runs (refused t m id) 11 (omega arith) t id _ (λ s o. settled-runs (refused t m id) (s .state) (λ _. reconfigure-alone t m id s (known t m id s o) _ P))
+alone (evaluateContext id P) t m h = slot-runs (refused t m id) 11 (omega arith) t id _ (λ s o. check-runs (refused t m id) _ (length m) P _ (runs-done (same-table t m id 1)))
 alone (resetDevice id) t m h =
-    slot-runs (refused t m id) 11 t id _
+    slot-runs (refused t m id) 11 (omega arith) t id _
     (λ s o. settled-runs (refused t m id) (s .state) (λ _. deconfigure-alone t m id s (known t m id s o) Default refl))
 alone resetAll t m h = absurd (omega arith)
-alone (stopEndpoint id i) t m h = reach-alone t m id 11 12 i _
-alone (resetEndpoint id i) t m h = reach-alone t m id 11 12 i _
-alone (setDequeue id i d) t m h = reach-alone t m id 11 12 i _
-alone (doorbell id i l) t m h = reach-alone t m id 11 12 i _
-alone (hostOk id i l) t m h = reach-alone t m id 196 196 i _
-alone (hostStall id i g) t m h = reach-alone t m id 196 196 i _
-alone (hostTransactionError id i g) t m h = reach-alone t m id 196 196 i _
-alone (hostTrbError id i) t m h = reach-alone t m id 196 196 i _
+alone (stopEndpoint id i) t m h = reach-alone t m id 11 12 i (omega arith) (omega arith) _
+alone (resetEndpoint id i) t m h = reach-alone t m id 11 12 i (omega arith) (omega arith) _
+alone (setDequeue id i d) t m h = reach-alone t m id 11 12 i (omega arith) (omega arith) _
+alone (doorbell id i l) t m h = reach-alone t m id 11 12 i (omega arith) (omega arith) _
+alone (hostOk id i l) t m h = reach-alone t m id 196 196 i (omega arith) (omega arith) _
+alone (hostStall id i g) t m h = reach-alone t m id 196 196 i (omega arith) (omega arith) _
+alone (hostTransactionError id i g) t m h = reach-alone t m id 196 196 i (omega arith) (omega arith) _
+alone (hostTrbError id i) t m h = reach-alone t m id 196 196 i (omega arith) (omega arith) _
 
 -- a call on one slot, whatever the table and the memory
 pub isolation : (c : Call) (t : Table) (m : Mem) → 1 ≤ slotIn c

@@ -175,9 +175,9 @@ module _ (c : Call) (t : Table) where
   abbrev Fits : List Store → Result Told → Type 0
   Fits ws r = Shape c (total ws) (told t r .0)
 
-  refused : (code : ℕ) → Fits [] (refuse code)
+  refused : (code : ℕ) → 2 ≤ code → Fits [] (refuse code)
   unfolding total
-  refused code = shape-answer c 0 code (omega arith)
+  refused code _ = shape-answer c 0 code (omega arith)
 
   deconfigure-fits : {m : Mem} (id : ℕ) (s : Slot) (nxt : SlotState) → 31 ≤ mostStored c → Runs (commands.deconfigure id s nxt t) m Fits
   deconfigure-fits id s nxt h =
@@ -219,9 +219,9 @@ module _ (c : Call) (t : Table) where
       freeing-runs id u (drops 31 id (slotOf u id .base)) (drops-begin 31 u (count-ascends 31 1) (omega (arith, count-length 31 1)))
       (λ ws w d. let e = drops-end 31 ws w d in g ws _ (going-end 1 _ (omega arith) (record { ended = e .0 .ended; begun = e .0 .begun; port = e .0 .port })) (e .1))
 
-  reach-fits : {m : Mem} (noSlot noEndpoint id i : ℕ) (input : Input) → 9 ≤ mostStored c → Runs (endpointCall noSlot noEndpoint id i input (length m) t) m Fits
-  reach-fits noSlot noEndpoint id i input h =
-      reach-runs refused noSlot noEndpoint id i input t (λ s ws r o e n w. shape-stepped c (total ws) r (omega arith))
+  reach-fits : {m : Mem} (noSlot noEndpoint id i : ℕ) → 2 ≤ noSlot → 2 ≤ noEndpoint → (input : Input) → 9 ≤ mostStored c → Runs (endpointCall noSlot noEndpoint id i input (length m) t) m Fits
+  reach-fits noSlot noEndpoint id i p q input h =
+      reach-runs refused noSlot noEndpoint id i p q input t (λ s ws r o e n w. shape-stepped c (total ws) r (omega arith))
 
   -- all slots freed, one after another
   all-fits : {m : Mem} → Runs (each (count 16 1) (λ id u. bind (commands.freeing id u) λ w. done (w .table)) t) m (λ ws u. total ws ≤ 496)
@@ -234,44 +234,44 @@ module _ (c : Call) (t : Table) where
 
   enable-fits : {m : Mem} (ids : List ℕ) → c ≡ enableSlot → Runs (commands.enableOne t ids) m Fits
   unfolding total
-  enable-fits [] e = runs-done (refused 9)
+  enable-fits [] e = runs-done (refused 9 (omega arith))
   enable-fits (id ∷ ids) e =
       runs-done (record { stored = omega arith; launched = omega arith; terminated = omega arith; slot = λ n. absurd (n e); port = λ _. refl; submit = omega arith; cancel = omega arith })
 
 fits : (c : Call) (t : Table) (m : Mem) → Runs (meaning c (length m) t) m (Fits c t)
 unfolding meaning commands.setLimit commands.setDcbaap commands.enableSlot commands.disableSlot commands.addressDevice commands.configureEndpoint commands.evaluateContext commands.resetDevice commands.resetAll total
-fits (setLimit n) t m = let c = setLimit n in formed-runs (refused c t) t (λ _. runs-choose (λ _. runs-done (refused c t 0)) (λ _. runs-done (refused c t 197)))
-fits (setDcbaap a) t m = let c = setDcbaap a in formed-runs (refused c t) t (λ _. runs-done (refused c t 0))
+fits (setLimit n) t m = let c = setLimit n in formed-runs (refused c t) t (λ _. runs-choose (λ _. runs-done (shape-answer c 0 0 (omega arith))) (λ _. runs-done (refused c t 197 (omega arith))))
+fits (setDcbaap a) t m = let c = setDcbaap a in formed-runs (refused c t) t (λ _. runs-done (shape-answer c 0 0 (omega arith)))
 fits enableSlot t m = formed-runs (refused enableSlot t) t (λ _. enable-fits enableSlot t (those (λ id. isFree (slotOf t id)) (count (t .limit) 1)) refl)
 fits (disableSlot id) t m =
     let c = disableSlot id in
-    slot-runs (refused c t) 11 t id _ (λ s o. runs-last _ (freeing-fits c t id t (λ ws w g n. shape-walked c (total ws) w n g)))
+    slot-runs (refused c t) 11 (omega arith) t id _ (λ s o. runs-last _ (freeing-fits c t id t (λ ws w g n. shape-walked c (total ws) w n g)))
 fits (addressDevice id P bsr) t m =
     let c = addressDevice id P bsr in
-    slot-runs (refused c t) 11 t id _ (λ s o. check-runs (refused c t) _ (length m) P _ (address-fits c t (length m) P bsr id s (omega arith)))
+    slot-runs (refused c t) 11 (omega arith) t id _ (λ s o. check-runs (refused c t) _ (length m) P _ (address-fits c t (length m) P bsr id s (omega arith)))
 fits (configureEndpoint id P true) t m =
     let c = configureEndpoint id P true in
-    slot-runs (refused c t) 11 t id _ (λ s o. settled-runs (refused c t) (s .state) (λ _. deconfigure-fits c t id s Addressed (omega arith)))
+    slot-runs (refused c t) 11 (omega arith) t id _ (λ s o. settled-runs (refused c t) (s .state) (λ _. deconfigure-fits c t id s Addressed (omega arith)))
 fits (configureEndpoint id P false) t m =
     let c = configureEndpoint id P false in
-    slot-runs (refused c t) 11 t id _ (λ s o. settled-runs (refused c t) (s .state) (λ _. reconfigure-fits c t _ id P s (length m) (omega arith)))
+    slot-runs (refused c t) 11 (omega arith) t id _ (λ s o. settled-runs (refused c t) (s .state) (λ _. reconfigure-fits c t _ id P s (length m) (omega arith)))
 fits (evaluateContext id P) t m =
     let c = evaluateContext id P in
-    slot-runs (refused c t) 11 t id _ (λ s o. check-runs (refused c t) _ (length m) P _ (runs-done (refused c t 1)))
+    slot-runs (refused c t) 11 (omega arith) t id _ (λ s o. check-runs (refused c t) _ (length m) P _ (runs-done (shape-answer c 0 1 (omega arith))))
 fits (resetDevice id) t m =
     let c = resetDevice id in
-    slot-runs (refused c t) 11 t id _ (λ s o. settled-runs (refused c t) (s .state) (λ _. deconfigure-fits c t id s Default (omega arith)))
+    slot-runs (refused c t) 11 (omega arith) t id _ (λ s o. settled-runs (refused c t) (s .state) (λ _. deconfigure-fits c t id s Default (omega arith)))
 fits resetAll t m =
     formed-runs (refused resetAll t) t
     (λ _. lent-runs (refused resetAll t) t (length m) (λ _. runs-last _ (runs-map (λ ws u h. shape-answer resetAll (total ws) 0 h) (all-fits resetAll t))))
-fits (stopEndpoint id i) t m = reach-fits (stopEndpoint id i) t 11 12 id i _ (omega arith)
-fits (resetEndpoint id i) t m = reach-fits (resetEndpoint id i) t 11 12 id i _ (omega arith)
-fits (setDequeue id i d) t m = reach-fits (setDequeue id i d) t 11 12 id i _ (omega arith)
-fits (doorbell id i l) t m = reach-fits (doorbell id i l) t 11 12 id i _ (omega arith)
-fits (hostOk id i l) t m = reach-fits (hostOk id i l) t 196 196 id i _ (omega arith)
-fits (hostStall id i g) t m = reach-fits (hostStall id i g) t 196 196 id i _ (omega arith)
-fits (hostTransactionError id i g) t m = reach-fits (hostTransactionError id i g) t 196 196 id i _ (omega arith)
-fits (hostTrbError id i) t m = reach-fits (hostTrbError id i) t 196 196 id i _ (omega arith)
+fits (stopEndpoint id i) t m = reach-fits (stopEndpoint id i) t 11 12 id i (omega arith) (omega arith) _ (omega arith)
+fits (resetEndpoint id i) t m = reach-fits (resetEndpoint id i) t 11 12 id i (omega arith) (omega arith) _ (omega arith)
+fits (setDequeue id i d) t m = reach-fits (setDequeue id i d) t 11 12 id i (omega arith) (omega arith) _ (omega arith)
+fits (doorbell id i l) t m = reach-fits (doorbell id i l) t 11 12 id i (omega arith) (omega arith) _ (omega arith)
+fits (hostOk id i l) t m = reach-fits (hostOk id i l) t 196 196 id i (omega arith) (omega arith) _ (omega arith)
+fits (hostStall id i g) t m = reach-fits (hostStall id i g) t 196 196 id i (omega arith) (omega arith) _ (omega arith)
+fits (hostTransactionError id i g) t m = reach-fits (hostTransactionError id i g) t 196 196 id i (omega arith) (omega arith) _ (omega arith)
+fits (hostTrbError id i) t m = reach-fits (hostTrbError id i) t 196 196 id i (omega arith) (omega arith) _ (omega arith)
 
 -- the shape of every answer, for every table and every memory
 pub shape : (c : Call) (t : Table) (m : Mem) → (let r = run (prog c (length m) t) m 0 in Shape c (r .stored) (r .value .0))

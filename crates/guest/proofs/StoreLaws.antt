@@ -86,23 +86,27 @@ pub runs-last : {A B : Type 0} {p : Prog A} (f : A → B) {m : Mem} {R : List St
 runs-last f {R = R} h =
     runs-bind (λ ws x. R ws (f x)) h (λ ws x q. runs-done (rw (append-nil ws) q))
 
--- a check that stores nothing: what follows may use what Q says of its value
-pub runs-then : {A B : Type 0} {p : Prog (Result A)} {f : A → Prog (Result B)} {m : Mem} {R : List Store → Result B → Type 0} (Q : A → Type 0)
-    → Runs p m (λ ws r. (ws ≡ []) × ((x : A) → r ≡ ok x → Q x)) → ((c : ℕ) → R [] (refuse c)) → ((x : A) → Q x → Runs (f x) m R) → Runs (andThen p f) m R
-unfolding andThen passed applied
-runs-then {A} {f = f} {m} {R} Q h r g = runs-bind _ h (λ ws x q. rw (q .0) (by x (q .1)))
-  where
-    by : (x : Result A) → ((y : A) → x ≡ ok y → Q y) → Runs (passed f x) m R
-    by (ok y) q = g y (q y refl)
-    by (refuse c) q = runs-done (r c)
+-- a part that stores nothing: it gives a value that has Q, or refuses with a code that has S
+abbrev pub Quietly : {A : Type 0} → (ℕ → Type 0) → (A → Type 0) → List Store → Result A → Type 0
+Quietly S Q ws (ok x) = (ws ≡ []) × Q x
+Quietly S Q ws (refuse c) = (ws ≡ []) × S c
 
--- past a check at each of a list that stores nothing, what each check shows holds of them all
-pub runs-every : {A : Type 0} {is : List ℕ} {f : ℕ → Prog (Result Unit)} {p : Prog (Result A)} {m : Mem} {R : List Store → Result A → Type 0} (Q : ℕ → Type 0)
-    → ((i : ℕ) → Runs (f i) m (λ ws r. (ws ≡ []) × ((x : Unit) → r ≡ ok x → Q i))) → ((c : ℕ) → R [] (refuse c)) → (All Q is → Runs p m R)
-    → Runs (every is f p) m R
+-- what follows such a part may use Q
+pub runs-then : {A B : Type 0} {p : Prog (Result A)} {f : A → Prog (Result B)} {m : Mem} {R : List Store → Result B → Type 0} (S : ℕ → Type 0) (Q : A → Type 0)
+    → Runs p m (Quietly S Q) → ((c : ℕ) → S c → R [] (refuse c)) → ((x : A) → Q x → Runs (f x) m R) → Runs (andThen p f) m R
+unfolding andThen passed applied
+runs-then {A} {f = f} {m} {R} S Q h r g = runs-bind (Quietly S Q) h by
+  where
+    by : (ws : List Store) (x : Result A) → Quietly S Q ws x → Runs (passed f x) (applied m ws) (λ vs y. R (ws ++ vs) y)
+    by ws (ok x) q = rw (q .0) (g x (q .1))
+    by ws (refuse c) q = rw (q .0) (runs-done (r c (q .1)))
+
+-- past such a check at each of a list, what each check shows holds of them all
+pub runs-every : {A : Type 0} {is : List ℕ} {f : ℕ → Prog (Result Unit)} {p : Prog (Result A)} {m : Mem} {R : List Store → Result A → Type 0} (S Q : ℕ → Type 0)
+    → ((i : ℕ) → Runs (f i) m (Quietly S (λ _. Q i))) → ((c : ℕ) → S c → R [] (refuse c)) → (All Q is → Runs p m R) → Runs (every is f p) m R
 unfolding every
-runs-every {is = []} Q h r g = g none
-runs-every {is = i ∷ is} Q h r g = runs-then (λ _. Q i) (h i) r (λ _ q. runs-every {is = is} Q h r (λ a. g (more q a)))
+runs-every {is = []} S Q h r g = g none
+runs-every {is = i ∷ is} S Q h r g = runs-then S (λ _. Q i) (h i) r (λ _ q. runs-every {is = is} S Q h r (λ a. g (more q a)))
 
 module _ {A : Type 0} (f : ℕ → A → Prog A) (m : Mem) (I : List ℕ → List Store → A → Type 0)
     (turn : (i : ℕ) (is : List ℕ) (ws : List Store) (y : A) → I (i ∷ is) ws y → Runs (f i y) (applied m ws) (λ vs z. I is (ws ++ vs) z)) where
