@@ -11,15 +11,16 @@ use borrow.Author.Tests.{ltb-true, eqb-true, leb-true}
 use lib.Dec.{leb, eqb}
 use lib.ListN.{length, length-take}
 use Rattle.guest.specs.Bytes.{count, setBits, slotStateByte, number, bytes, _⊕_, pointerOf, cycleOf}
-use Rattle.guest.specs.Prog.{Mem, Prog, done, get, put, block, splice, Within, Store, stores, Touched, choose, each, Result, ok, refuse, andThen, passed}
+use Rattle.guest.specs.Prog.{Mem, Prog, done, get, put, run, block, splice, Within, Store, stores, Touched, choose, each, Result, ok, refuse, andThen, passed}
 use Rattle.guest.proofs.ListLaws.{All, and-left, and-right}
 use Rattle.guest.proofs.ReadLaws.{applied, total}
-use Rattle.guest.proofs.StoreLaws.{Runs, store, runs-done, runs-get, runs-put, runs-choose, runs-need, runs-bind, runs-last, Quietly, runs-then, runs-every, runs-map, runs-each, each-from}
+use Rattle.guest.proofs.StoreLaws.{Runs, runs-run, store, runs-done, runs-get, runs-put, runs-choose, runs-need, runs-bind, runs-last, Quietly, runs-then, runs-every, runs-map, runs-each, each-from}
 use Rattle.definition.specs.Types.{Endpoint, Waiting, Input, SlotState, Free, Enabled, Default, Addressed, Configured, Slot, Table, Lookup, Used, Nothing, Row, Report}
 use Rattle.definition.specs.Table.{slotNumber, isDisabled, isFree, disabled, free, endpointOf, slotOf, withEndpoint, withSlot, lookup, wellFormed}
 use Rattle.definition.specs.Steps.{Stepped, entry, reportOf, stepBy, step, launchAt, terminateAt}
 use Rattle.definition.specs.Walks.{Walk, begin, terminateAll, begun, ended, terminate, launch, copyLaunch}
 use Rattle.definition.specs.Commands.{formed, lent, found, onSlot, onEndpoint, checkType, contextCheck, settled, needContexts, add, contextState, walked, finish, deconfigure, reconfigure, carryOut, copyContexts, Plan, fresh, again, plan, freeing, endpointCall, Told, stepped}
+use Rattle.definition.specs.Calls.{Call, meaning, told, prog}
 use Rattle.definition.specs.Rules.{Opened, Settled, isAddressed, isConfigured}
 use Rattle.definition.proofs.TableLaws.{endpoint-back, IsEndpoint}
 
@@ -273,3 +274,9 @@ reach-runs {m} {R} r noSlot noEndpoint id i p q input t g =
     is-endpoint e =
         let both = and-left (leb 1 i && leb i 31) (not (isDisabled (endpointOf t id i))) e in
         (leb-true 1 i (and-left (leb 1 i) (leb i 31) both), leb-true i 31 (and-right (leb 1 i) (leb i 31) both))
+
+-- a call, from what its meaning stores and gives
+pub prog-runs : (c : Call) (t : Table) (m : Mem) (R : List Store → Told → Type 0) → Runs (meaning c (length m) t) m (λ ws r. R ws (told t r))
+    → R (stores (prog c (length m) t) m) (run (prog c (length m) t) m 0 .value)
+unfolding prog
+prog-runs c t m R h = runs-run (runs-last (told t) {R = R} h) 0

@@ -25,7 +25,7 @@ use Rattle.definition.specs.Commands.{Told, contextState, endpointCall}
 use Rattle.definition.specs.Calls.{Call, setLimit, setDcbaap, enableSlot, disableSlot, addressDevice, configureEndpoint, evaluateContext, resetDevice, resetAll, stopEndpoint, resetEndpoint, setDequeue, doorbell, hostOk, hostStall, hostTransactionError, hostTrbError, meaning, told, prog}
 use Rattle.definition.specs.Rules.{Opened}
 use Rattle.definition.proofs.TableLaws.{IsSlot, IsEndpoint, endpoint-elsewhere, endpoint-slot, slot-other, slot-endpoint}
-use Rattle.definition.proofs.CountLaws.{Dropping, Adding, Starts, read, over, gives-up, copies, copied, half, settle, slot-runs, check-runs, settled-runs, deconfigure-runs, reconfigure-runs, address-runs, freeing-runs, reach-runs}
+use Rattle.definition.proofs.CountLaws.{Dropping, Adding, Starts, read, over, gives-up, copies, copied, half, settle, slot-runs, check-runs, settled-runs, deconfigure-runs, reconfigure-runs, address-runs, freeing-runs, reach-runs, prog-runs}
 
 -- ---- what is shown
 
@@ -226,14 +226,14 @@ module _ (t : Table) (m : Mem) (id : ℕ) where
   refused c _ = same-table c
 
   -- past 198, 194 and 11
-  record Known (s : Slot) : Type 0 where
-    same : slotOf t id ≡ s
-    is : IsSlot id
-    used : isFree s ≡ false
-    low : s .base ≤ 2 ^ 30
-    inside : id - 1 < length (t .slots)
+  pub record Known (s : Slot) : Type 0 where
+    pub same : slotOf t id ≡ s
+    pub is : IsSlot id
+    pub used : isFree s ≡ false
+    pub low : s .base ≤ 2 ^ 30
+    pub inside : id - 1 < length (t .slots)
 
-  known : (s : Slot) → Opened t m id s → Known s
+  pub known : (s : Slot) → Opened t m id s → Known s
   known s o =
       let u = used-slot t id s (o .used) in
       record {
@@ -340,5 +340,4 @@ alone (hostTrbError id i) t m h = reach-alone t m id 196 196 i (omega arith) (om
 -- a call on one slot, whatever the table and the memory
 pub isolation : (c : Call) (t : Table) (m : Mem) → 1 ≤ slotIn c
     → Isolated (slotIn c) t (run (prog c (length m) t) m 0 .value .1) (stores (prog c (length m) t) m)
-unfolding prog
-isolation c t m h = runs-run (runs-last (told t) {R = λ ws x. Isolated (slotIn c) t (x .1) ws} (alone c t m h)) 0
+isolation c t m h = prog-runs c t m (λ ws x. Isolated (slotIn c) t (x .1) ws) (alone c t m h)

@@ -5,3 +5,4 @@ pub mod CountLaws
 pub mod ShapeLaws
 pub mod EndedLaws
 pub mod IsolationLaws
+pub mod LaunchedLaws

@@ -20,7 +20,7 @@ use Rattle.definition.specs.Commands as commands
 use Rattle.definition.specs.Commands.{contextState, Told, answer, walked, stepped, endpointCall}
 use Rattle.definition.specs.Calls.{Call, setLimit, setDcbaap, enableSlot, disableSlot, addressDevice, configureEndpoint, evaluateContext, resetDevice, resetAll, stopEndpoint, resetEndpoint, setDequeue, doorbell, hostOk, hostStall, hostTransactionError, hostTrbError, meaning, told, prog}
 use Rattle.definition.proofs.MaskLaws.{Ascends, ends, next, Mask, mask-up, mask-bit, bit-some, ascends-below, ascends-length, count-ascends, bits-ascend, ascends-head, ascends-from}
-use Rattle.definition.proofs.CountLaws.{Starts, read, over, gives-up, copies, copied, half, Dropping, Adding, gone, slot-runs, formed-runs, lent-runs, check-runs, settled-runs, deconfigure-runs, reconfigure-runs, address-runs, freeing-runs, reach-runs}
+use Rattle.definition.proofs.CountLaws.{Starts, read, over, gives-up, copies, copied, half, Dropping, Adding, gone, slot-runs, formed-runs, lent-runs, check-runs, settled-runs, deconfigure-runs, reconfigure-runs, address-runs, freeing-runs, reach-runs, prog-runs}
 
 -- the most bytes that a call stores
 abbrev pub mostStored : Call → ℕ
@@ -275,7 +275,5 @@ fits (hostTrbError id i) t m = reach-fits (hostTrbError id i) t 196 196 id i (om
 
 -- the shape of every answer, for every table and every memory
 pub shape : (c : Call) (t : Table) (m : Mem) → (let r = run (prog c (length m) t) m 0 in Shape c (r .stored) (r .value .0))
-unfolding prog
 shape c t m =
-    let h = runs-run (runs-last (told t) {R = λ ws x. Shape c (total ws) (x .0)} (fits c t m)) 0 in
-    rw (run-count (prog c (length m) t) m 0, zero-add (total (stores (prog c (length m) t) m))) h
+    rw (run-count (prog c (length m) t) m 0, zero-add (total (stores (prog c (length m) t) m))) (prog-runs c t m (λ ws x. Shape c (total ws) (x .0)) (fits c t m))
