@@ -143,7 +143,7 @@ record Aside (t : Table) (id base : ℕ) (is : List ℕ) (ws : List Store) (w : 
 aside-begin : (t : Table) (id base : ℕ) {is : List ℕ} → All IsEndpoint is → Aside t id base is [] (begin t)
 aside-begin t id base a = record { left = a; slots = refl; endpoints = λ other j _ _ _. refl; own = own-none base }
 
-all-head : {P : ℕ → Type 0} {i : ℕ} {is : List ℕ} → All P (i ∷ is) → P i × All P is
+pub all-head : {P : ℕ → Type 0} {i : ℕ} {is : List ℕ} → All P (i ∷ is) → P i × All P is
 all-head (more p a) = (p, a)
 
 module _ (t : Table) (id base : ℕ) (some : 1 ≤ id) (low : base ≤ 2 ^ 30) where

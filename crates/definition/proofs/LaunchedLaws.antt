@@ -12,7 +12,7 @@ use lib.ListN.{length, getD, drop, length-take}
 use lib.Seq.{ext-getD}
 use Rattle.guest.specs.Bytes.{number, _⊕_, count, setBits, bit, slotStateByte}
 use Rattle.guest.specs.Prog.{Mem, block, splice, run, Within, Store, Touched, Result, ok, refuse}
-use Rattle.guest.proofs.ListLaws.{All, In, here, there, all-map, those-all, those-in, count-all, count-in}
+use Rattle.guest.proofs.ListLaws.{All, none, more, In, here, there, all-map, those-all, those-in, count-all, count-in}
 use Rattle.guest.proofs.SpliceLaws.{splice-length, block-length, block-at, block-same, block-other, block-here}
 use Rattle.guest.proofs.ReadLaws.{applied, applied-length, applied-append, applied-other}
 use Rattle.guest.proofs.StoreLaws.{Runs, store, runs-run, runs-last, touched-append}
@@ -20,13 +20,13 @@ use Rattle.definition.specs.Types.{Endpoint, SlotState, Default, Configu
 use Rattle.definition.specs.Table.{isDisabled, disabled, endpointOf, slotOf, withEndpoint, withSlot, wellFormed}
 use Rattle.definition.specs.Walks.{Walk, begin}
 use Rattle.definition.specs.Commands as commands
-use Rattle.definition.specs.Commands.{Told, contextState}
+use Rattle.definition.specs.Commands.{Told, usbTypes, contextState}
 use Rattle.definition.specs.Calls.{addressDevice, configureEndpoint, meaning, told, prog}
 use Rattle.definition.specs.Rules.{Opened}
 use Rattle.definition.proofs.TableLaws.{Sized, IsSlot, IsEndpoint, sized-endpoint, sized-slot, endpoint-here, endpoint-other, endpoint-slot, slot-here}
 use Rattle.definition.proofs.MaskLaws.{Ascends, ascends-head, ascends-from, bits-ascend}
 use Rattle.definition.proofs.CountLaws.{Dropping, Adding, Starts, read, over, gives-up, copies, copied, half, waiting, gone, slot-runs, check-runs, settled-runs, reconfigure-runs, address-runs, prog-runs}
-use Rattle.definition.proofs.IsolationLaws.{Known, known, length-low}
+use Rattle.definition.proofs.IsolationLaws.{all-head, Known, known, length-low}
 
 -- ---- the word
 
@@ -58,9 +58,10 @@ word-kept m ws X h = block-same (applied m ws) m X 8 (applied-length ws m) (λ a
 abbrev pub SlotFirst : Table → ℕ → ℕ → ℕ → Type 0
 SlotFirst t id base x = Within base 32 x ⊎ ((slotOf t id .state ≡ Default) × (x ≡ base + 32))
 
-slot-stores : (n : Mem) (c base b x : ℕ) → Touched (store base (block n c 32) ∷ store (base + 15) (b ∷ []) ∷ []) x → Within base 32 x
+-- a context stored, and then a byte of it
+context-stores : (n : Mem) (c base at b x : ℕ) → base ≤ at → at < base + 32 → Touched (store base (block n c 32) ∷ store at (b ∷ []) ∷ []) x → Within base 32 x
 unfolding Touched
-slot-stores n c base b x h =
+context-stores n c base at b x l g h =
     ⊎-elim (λ w. omega (arith, length-take 32 (drop c n))) (⊎-elim (λ w. omega arith) (λ q. absurd q)) h
 
 module _ (t : Table) (m : Mem) (id P : ℕ) (z : Sized t) where
@@ -104,7 +105,7 @@ module _ (t : Table) (m : Mem) (id P : ℕ) (z : Sized t) where
         let kept : block n FirstWord 8 ≡ block m FirstWord 8 = rw same at (word-kept m (ws ++ two) FirstWord
         (λ x v q. clear x v (subst (λ (r : Slot). SlotFirst t id (r .base) x)
         (sym (slot-here _ id slot (sized-endpoint (w .table) id 1 _ (first-sized b)) (k .is)))
-        (⊎-elim (first-before b low x) (λ d. inl (slot-stores (applied m ws) (P ⊕ 32) base (slotStateByte (contextState nxt)) x d)) (touched-append ws two x q))))) in
+        (⊎-elim (first-before b low x) (λ d. inl (context-stores (applied m ws) (P ⊕ 32) base (base + 15) (slotStateByte (contextState nxt)) x (omega arith) (omega arith) d)) (touched-append ws two x q))))) in
         endpoint-slot _ id slot id 1
         ∙ endpoint-here (w .table) id 1 _ (first-sized b) (k .is) (omega arith)
         ∙ ap waiting (launch-word n (base ⊕ 32 * 1) ((P ⊕ 32) + 32) (omega arith) (omega arith) ∙ kept))
@@ -119,3 +120,150 @@ addressed id P bsr t m z =
     prog-runs (addressDevice id P bsr) t m (λ ws x. First t m id P z x)
     (slot-runs (first-refused t m id P z) 11 (omega arith) t id _
     (λ s o. check-runs (first-refused t m id P z) _ (length m) P _ (first-runs t m id P z s (known t m id s o) bsr (o .size) (o .formed))))
+
+-- ---- Configure Endpoint
+
+-- the flags of the input context at P: endpoint j, of 2 to 31, is dropped; it is added
+abbrev pub Dropped : Mem → ℕ → ℕ → Type 0
+Dropped m P j = (2 ≤ j) × (j ≤ 31) × (bit (number (block m P 4)) j ≡ true)
+
+abbrev pub Added : Mem → ℕ → ℕ → Type 0
+Added m P j = (2 ≤ j) × (j ≤ 31) × (bit (number (block m (P ⊕ 4) 4)) j ≡ true)
+
+-- x is stored to before the context of endpoint i is read: the state byte of each endpoint that is ended, the context of each that is added before i
+pub data Before (t : Table) (m : Mem) (id P i x : ℕ) : Type 0 where
+  byDrop : (j : ℕ) → Dropped m P j → isDisabled (endpointOf t id j) ≡ false → x ≡ slotOf t id .base ⊕ 32 * j → Before t m id P i x
+  byAdd : (j : ℕ) → Added m P j → j < i → Within (slotOf t id .base ⊕ 32 * j) 32 x → Before t m id P i x
+
+before-up : {t : Table} {m : Mem} {id P i x : ℕ} (k : ℕ) → i ≤ k → Before t m id P i x → Before t m id P k x
+before-up k h (byDrop j d e q) = byDrop j d e q
+before-up k h (byAdd j a l w) = byAdd j a (omega arith) w
+
+in-cases : {i j : ℕ} {is : List ℕ} → In j (i ∷ is) → (j ≡ i) ⊎ In j is
+in-cases here = inl refl
+in-cases (there n) = inr n
+
+in-none : {j : ℕ} → In j [] → ⊥
+in-none h = elim h [ ]
+
+both : {P Q : ℕ → Type 0} {is : List ℕ} → All P is → All Q is → All (λ i. P i × Q i) is
+both none none = none
+both (more p a) (more q b) = more (p, q) (both a b)
+
+flags : (x : ℕ) → All (λ j. (2 ≤ j) × (j ≤ 31) × (bit x j ≡ true)) (setBits 30 2 x)
+flags x = all-map (λ j h. (h .0 .0, h .0 .1, h .1)) (those-all (λ j. (2 ≤ j) × (j ≤ 31)) (bit x) (count 30 2) (count-all _ 30 2 (λ j a b. (a, omega arith))))
+
+module _ (t : Table) (m : Mem) (id P : ℕ) (z : Sized t) where
+  abbrev WordAt : ℕ → ℕ
+  WordAt i = (P ⊕ 32 * (i + 1)) + 8
+
+  -- endpoint i of the table u holds what its input context says
+  Holds : ℕ → Table → Type 0
+  Holds i u = ((x : ℕ) → Within (WordAt i) 8 x → Before t m id P i x → ⊥) → endpointOf u id i ≡ waiting (block m (WordAt i) 8)
+
+  Later : Told → Type 0
+  Later x = x .0 .code ≡ 1 → (i : ℕ) → Added m P i → Holds i (x .1)
+
+  later-refused : (c : ℕ) → 2 ≤ c → Later (told t (refuse c))
+  unfolding Later
+  later-refused c h e = absurd (omega arith)
+
+  -- on the way down the drops
+  record Dropping-on (is : List ℕ) (ws : List Store) (w : Walk) : Type 0 where
+    from : ℕ
+    ascends : Ascends 32 from is
+    left : All (Dropped m P) is
+    sized : Sized (w .table)
+    ahead : (j : ℕ) → from ≤ j → endpointOf (w .table) id j ≡ endpointOf t id j
+    stored : (x : ℕ) → Touched ws x → Before t m id P 0 x
+
+  -- on the way down the adds
+  record Adding-on (is : List ℕ) (ws : List Store) (w : Walk) : Type 0 where
+    from : ℕ
+    ascends : Ascends 32 from is
+    left : All (λ i. Added m P i × (((P ⊕ 32 * (i + 1)) + 32 ≤ length m) × ((slotOf t id .base ⊕ 32 * i) + 32 ≤ length m))) is
+    sized : Sized (w .table)
+    stored : (x : ℕ) → Touched ws x → Before t m id P from x
+    done : (j : ℕ) → Added m P j → In j is ⊎ Holds j (w .table)
+
+  drops-on : Dropping id (slotOf t id .base) Dropping-on
+  unfolding Touched
+  drops-on =
+      record {
+        skip = λ i is ws w d. let h = ascends-head (d .ascends) in record {
+          from = i + 1; ascends = h .1; left = all-head (d .left) .1; sized = d .sized;
+          ahead = λ j q. d .ahead j (omega arith); stored = d .stored;
+        };
+        go = λ i is ws w d e. let h = ascends-head (d .ascends) in let a = all-head (d .left) in record {
+          from = i + 1; ascends = h .1; left = a .1; sized = sized-endpoint (w .table) id i disabled (d .sized);
+          ahead = λ j q. endpoint-other (w .table) id i j disabled (omega arith) (omega arith) (λ f. omega arith) ∙ d .ahead j (omega arith);
+          stored = λ x q. ⊎-elim (d .stored x)
+              (⊎-elim (λ v. byDrop i (a .0) (rw (← d .ahead i (h .0)) e) (omega arith)) (λ v. absurd v)) (touched-append ws _ x q);
+        };
+      }
+
+  module _ (n : IsSlot id) (i : ℕ) (is : List ℕ) (ws : List Store) (w : Walk) (d : Adding-on (i ∷ is) ws w) where
+    abbrev At : ℕ
+    At = slotOf t id .base ⊕ 32 * i
+
+    -- the endpoint that this turn adds
+    abbrev Made : Endpoint
+    Made = waiting (block (splice (splice (applied m ws) At (block (applied m ws) (P ⊕ 32 * (i + 1)) 32)) At (1 ∷ [])) (At + 8) 8)
+
+    made-holds : Holds i (withEndpoint (w .table) id i Made)
+    unfolding Holds
+    made-holds clear =
+        let h = ascends-head (d .ascends) in
+        let a = all-head (d .left) .0 in
+        let long : length (applied m ws) ≡ length m = applied-length ws m in
+        endpoint-here (w .table) id i Made (d .sized) n (omega arith)
+        ∙ ap waiting (launch-word (applied m ws) At (P ⊕ 32 * (i + 1)) (omega arith) (omega arith)
+        ∙ word-kept m ws (WordAt i) (λ x v q. clear x v (before-up i (h .0) (d .stored x q))))
+
+    done-next : (j : ℕ) → Added m P j → In j is ⊎ Holds j (withEndpoint (w .table) id i Made)
+    unfolding Holds
+    done-next j f = ⊎-elim (λ p. ⊎-elim (λ e. inr (now e)) inl (in-cases p)) (λ g. inr (by (ℕ-discrete j i) g)) (d .done j f)
+      where
+        now : j ≡ i → Holds j (withEndpoint (w .table) id i Made)
+        now e = subst (λ (k : ℕ). Holds k (withEndpoint (w .table) id i Made)) (sym e) made-holds
+
+        by : Dec (j ≡ i) → Holds j (w .table) → Holds j (withEndpoint (w .table) id i Made)
+        by (yes e) g = now e
+        by (no e) g = λ clear. endpoint-other (w .table) id i j Made (omega (arith, all-head (d .left) .0)) (omega arith) e ∙ g clear
+
+  adds-on : IsSlot id → Adding m id P (slotOf t id .base) Adding-on
+  adds-on n =
+      record {
+        turn = λ i is ws w d. let h = ascends-head (d .ascends) in let a = all-head (d .left) in record {
+          from = i + 1; ascends = h .1; left = a .1; sized = sized-endpoint (w .table) id i _ (d .sized);
+          stored = λ x q. ⊎-elim (λ v. before-up (i + 1) (omega arith) (d .stored x v))
+              (λ v. byAdd i (a .0 .0) (omega arith) (context-stores (applied m ws) (P ⊕ 32 * (i + 1)) _ _ 1 x (omega arith) (omega arith) v)) (touched-append ws _ x q);
+          done = done-next n i is ws w d;
+        };
+      }
+
+  later-runs : IsSlot id → (accepts : ℕ → Bool) → Runs (commands.reconfigure accepts id P (slotOf t id) (length m) t) m (λ ws r. Later (told t r))
+  unfolding Later Holds Touched
+  later-runs n accepts =
+      reconfigure-runs id (slotOf t id) t later-refused accepts (length m) P drops-on (adds-on n)
+      (λ a ws w d. record {
+        from = 2; ascends = bits-ascend 30 2 _; left = both (flags _) a; sized = d .sized;
+        stored = λ x q. before-up 2 (omega arith) (d .stored x q);
+        done = λ j f. inl (those-in _ (count-in 30 2 j (f .0) (omega arith)) (f .2));
+      })
+      (record { from = 2; ascends = bits-ascend 30 2 _; left = flags _; sized = z; ahead = λ j _. refl; stored = λ x q. absurd q })
+      (λ ws w d e i f clear. endpoint-slot (w .table) id _ id i ∙ ⊎-elim (λ q. absurd (in-none q)) (λ h. h) (d .done i f) clear)
+
+-- the endpoints that Configure Endpoint with DC=0 launches
+pub configured : (id P : ℕ) (t : Table) (m : Mem) → Sized t
+    → (let r = run (prog (configureEndpoint id P false) (length m) t) m 0 .value in
+      r .0 .code ≡ 1 → (i : ℕ) → Added m P i
+      → (let word = (P ⊕ 32 * (i + 1)) + 8 in
+        ((x : ℕ) → Within word 8 x → Before t m id P i x → ⊥) → endpointOf (r .1) id i ≡ waiting (block m word 8)))
+unfolding meaning commands.configureEndpoint Later Holds
+configured id P t m z =
+    prog-runs (configureEndpoint id P false) t m (λ ws x. Later t m id P z x)
+    (slot-runs (later-refused t m id P z) 11 (omega arith) t id _
+    (λ s o. settled-runs (later-refused t m id P z) (s .state) (λ _.
+    let k = known t m id s o in
+    subst (λ (r : Slot). Runs (commands.reconfigure usbTypes id P r (length m) t) m (λ ws x. Later t m id P z (told t x))) (k .same) (later-runs t m id P z (k .is) usbTypes))))
