@@ -1,12 +1,16 @@
 -- Ascending lists of numbers, and masks to which each adds its bit.
 -- Assumes nothing.
-use mathlib.Core.Path.{_≡_, refl}
+use mathlib.Core.Path.{_≡_, refl, sym, ap, _∙_}
+use mathlib.Core.Logic.{_⊎_, inl, inr}
 use mathlib.Core.Bool.{Bool, true, false}
 use mathlib.Core.List.{List, [], _∷_}
-use Prim.Native.Nat.{ℕ, zero, suc, _+_, _*_, _%_, _^_, _≤_, _<_}
-use native.Mathlib.Nat.{pow-suc, pow-le-pow-right}
+use Prim.Native.Nat.{ℕ, zero, suc, _+_, _-_, _*_, _/_, _%_, _^_, _≤_, _<_}
+use native.Mathlib.Nat.{pow-suc, pow-le-pow-right, add-mul-div-left, add-div-right, div-eq-of-lt, zero-div}
 use native.Mathlib.Numerals.{add-one}
 use native.Mathlib.Omega.{arith}
+use native.Mathlib.Decide.{ℕ-discrete, decLt}
+use borrow.Author.Tests.{eqb-true, eq-eqb}
+use lib.Pow.{pow-pos, pow-mono, pow-add}
 use lib.ListN.{length}
 use Rattle.guest.specs.Bytes.{count, those, setBits, bit}
 use Rattle.guest.proofs.ListLaws.{those-yes, those-no}
@@ -68,3 +72,48 @@ mask-bit k (suc i) x p h q = let below = mask-up k (suc i) x h q in let e : 2 ^ 
 -- a mask with a bit is not 0
 pub bit-some : (i x : ℕ) → x + 2 ^ i ≡ 0 → ⊥
 bit-some i x e = omega (arith, pow-le-pow-right {n = 2} (omega arith) {i = 0} {j = i} (omega arith))
+
+-- ---- the bits of a mask to which bit i, above all of its bits, was added
+
+below-same : (i x j : ℕ) → j < i → (x + 2 ^ i) / 2 ^ j % 2 ≡ x / 2 ^ j % 2
+below-same i x j h =
+    let k : i ≡ j + suc (i - suc j) = omega arith in
+    let e : 2 ^ i ≡ 2 ^ j * (2 ^ (i - suc j) * 2) = ap (λ (n : ℕ). 2 ^ n) k ∙ pow-add 2 j (suc (i - suc j)) ∙ ap (λ (n : ℕ). 2 ^ j * n) (pow-suc 2 (i - suc j)) in
+    let q : (x + 2 ^ i) / 2 ^ j ≡ x / 2 ^ j + 2 ^ (i - suc j) * 2 = rw e (add-mul-div-left x (2 ^ (i - suc j) * 2) (pow-pos j)) in
+    rw q (omega arith)
+
+bit-here : (i x : ℕ) → x < 2 ^ i → (x + 2 ^ i) / 2 ^ i % 2 ≡ 1
+bit-here i x h =
+    let q : (x + 2 ^ i) / 2 ^ i ≡ x / 2 ^ i + 1 = add-div-right x (pow-pos i) in
+    let z : x / 2 ^ i ≡ 0 = div-eq-of-lt h in
+    rw q (omega arith)
+
+above-none : (i x j : ℕ) → x < 2 ^ i → i < j → (x + 2 ^ i) / 2 ^ j ≡ 0
+above-none i x j h l =
+    let e : 2 ^ suc i ≡ 2 ^ i * 2 = pow-suc 2 i in
+    let m : 2 ^ suc i ≤ 2 ^ j = pow-mono l in
+    div-eq-of-lt (omega arith)
+
+-- which bits they are
+pub bit-of : (i x j : ℕ) → x < 2 ^ i → bit (x + 2 ^ i) j ≡ true → (j ≡ i) ⊎ (bit x j ≡ true)
+bit-of i x j h e = by (ℕ-discrete j i) (decLt j i) (eqb-true ((x + 2 ^ i) / 2 ^ j % 2) 1 e)
+  where
+    by : Dec (j ≡ i) → Dec (j < i) → (x + 2 ^ i) / 2 ^ j % 2 ≡ 1 → (j ≡ i) ⊎ (bit x j ≡ true)
+    by (yes q) d e = inl q
+    by (no q) (yes l) e = inr (eq-eqb (x / 2 ^ j % 2) 1 (sym (below-same i x j l) ∙ e))
+    by (no q) (no l) e = let z : (x + 2 ^ i) / 2 ^ j ≡ 0 = above-none i x j h (omega arith) in absurd (omega arith)
+
+pub bit-added : (i x : ℕ) → x < 2 ^ i → bit (x + 2 ^ i) i ≡ true
+bit-added i x h = eq-eqb ((x + 2 ^ i) / 2 ^ i % 2) 1 (bit-here i x h)
+
+pub bit-stays : (i x j : ℕ) → x < 2 ^ i → bit x j ≡ true → bit (x + 2 ^ i) j ≡ true
+bit-stays i x j h e = by (decLt j i) (eqb-true (x / 2 ^ j % 2) 1 e)
+  where
+    by : Dec (j < i) → x / 2 ^ j % 2 ≡ 1 → bit (x + 2 ^ i) j ≡ true
+    by (yes l) e = eq-eqb ((x + 2 ^ i) / 2 ^ j % 2) 1 (below-same i x j l ∙ e)
+    by (no l) e =
+        let m : 2 ^ i ≤ 2 ^ j = pow-mono (omega arith) in
+        let z : x / 2 ^ j ≡ 0 = div-eq-of-lt (omega arith) in absurd (omega arith)
+
+pub bit-zero : (j : ℕ) → bit 0 j ≡ true → ⊥
+bit-zero j e = let z : 0 / 2 ^ j ≡ 0 = zero-div (2 ^ j) in let q : 0 / 2 ^ j % 2 ≡ 1 = eqb-true (0 / 2 ^ j % 2) 1 e in omega arith
