@@ -9,6 +9,7 @@ use Prim.Native.Nat.{ℕ, _+_, _*_, _^_, _≤_, _<_}
 use native.Mathlib.Omega.{arith}
 use native.Mathlib.Decide.{ℕ-discrete}
 use lib.ListN.{length, getD, drop, length-take}
+use lib.Pow.{pow-mono}
 use lib.Seq.{ext-getD}
 use Rattle.guest.specs.Bytes.{number, _⊕_, count, setBits, bit, slotStateByte}
 use Rattle.guest.specs.Prog.{Mem, block, splice, run, Within, Store, Touched, Result, ok, refuse}
@@ -16,7 +17,7 @@ use Rattle.guest.proofs.ListLaws.{All, none, more, In, here, there, all-map, th
 use Rattle.guest.proofs.SpliceLaws.{splice-length, block-length, block-at, block-same, block-other, block-here}
 use Rattle.guest.proofs.ReadLaws.{applied, applied-length, applied-append, applied-other}
 use Rattle.guest.proofs.StoreLaws.{Runs, store, runs-run, runs-last, touched-append}
-use Rattle.definition.specs.Types.{Endpoint, SlotState, Default, Configured, Slot, Table}
+use Rattle.definition.specs.Types.{Endpoint, SlotState, Default, Configured, Slot, Table, Answer}
 use Rattle.definition.specs.Table.{isDisabled, disabled, endpointOf, slotOf, withEndpoint, withSlot, wellFormed}
 use Rattle.definition.specs.Walks.{Walk, begin}
 use Rattle.definition.specs.Commands as commands
@@ -24,7 +25,7 @@ use Rattle.definition.specs.Commands.{Told, usbTypes, contextState}
 use Rattle.definition.specs.Calls.{addressDevice, configureEndpoint, meaning, told, prog}
 use Rattle.definition.specs.Rules.{Opened}
 use Rattle.definition.proofs.TableLaws.{Sized, IsSlot, IsEndpoint, sized-endpoint, sized-slot, endpoint-here, endpoint-other, endpoint-slot, slot-here}
-use Rattle.definition.proofs.MaskLaws.{Ascends, ascends-head, ascends-from, bits-ascend}
+use Rattle.definition.proofs.MaskLaws.{Ascends, ascends-head, bits-ascend, mask-low, bit-of, bit-added, bit-stays, bit-zero}
 use Rattle.definition.proofs.CountLaws.{Dropping, Adding, Starts, read, over, gives-up, copies, copied, half, waiting, gone, slot-runs, check-runs, settled-runs, reconfigure-runs, address-runs, prog-runs}
 use Rattle.definition.proofs.IsolationLaws.{all-head, Known, known, length-low}
 
@@ -58,6 +59,16 @@ word-kept m ws X h = block-same (applied m ws) m X 8 (applied-length ws m) (λ a
 abbrev pub SlotFirst : Table → ℕ → ℕ → ℕ → Type 0
 SlotFirst t id base x = Within base 32 x ⊎ ((slotOf t id .state ≡ Default) × (x ≡ base + 32))
 
+-- Address Device by the input context at P took t to u and answered a with success
+pub record Addresses (t : Table) (m : Mem) (id P : ℕ) (a : Answer) (u : Table) : Type 0 where
+  pub launched : a .launched ≡ 2
+  pub holds : (let word = (P ⊕ 32) + 32 + 8 in
+        ((x : ℕ) → Within word 8 x → SlotFirst t id (slotOf u id .base) x → ⊥) → endpointOf u id 1 ≡ waiting (block m word 8))
+
+-- a word outside the device context is not stored to
+pub slot-apart : (t : Table) (id base word : ℕ) → (word + 8 ≤ base) ⊎ (base + 1024 ≤ word) → (x : ℕ) → Within word 8 x → SlotFirst t id base x → ⊥
+slot-apart t id base word apart x w f = ⊎-elim (λ l. ⊎-elim (λ v. omega arith) (λ v. omega arith) f) (λ l. ⊎-elim (λ v. omega arith) (λ v. omega arith) f) apart
+
 -- a context stored, and then a byte of it
 context-stores : (n : Mem) (c base at b x : ℕ) → base ≤ at → at < base + 32 → Touched (store base (block n c 32) ∷ store at (b ∷ []) ∷ []) x → Within base 32 x
 unfolding Touched
@@ -69,9 +80,7 @@ module _ (t : Table) (m : Mem) (id P : ℕ) (z : Sized t) where
   FirstWord = (P ⊕ 32) + 32 + 8
 
   First : Told → Type 0
-  First x =
-      x .0 .code ≡ 1 → ((a : ℕ) → Within FirstWord 8 a → SlotFirst t id (slotOf (x .1) id .base) a → ⊥)
-      → endpointOf (x .1) id 1 ≡ waiting (block m FirstWord 8)
+  First x = x .0 .code ≡ 1 → Addresses t m id P (x .0) (x .1)
 
   first-refused : (c : ℕ) → 2 ≤ c → First (told t (refuse c))
   unfolding First
@@ -82,6 +91,11 @@ module _ (t : Table) (m : Mem) (id P : ℕ) (z : Sized t) where
     first-sized (read e) = z
     first-sized (over e) = z
     first-sized (gives-up e) = sized-endpoint t id 1 disabled z
+
+    first-none : {ws : List Store} {base : ℕ} {w : Walk} → Starts m id s t ws base w → w .launched ≡ 0
+    first-none (read e) = refl
+    first-none (over e) = refl
+    first-none (gives-up e) = refl
 
     -- what is stored before the slot context
     first-before : {ws : List Store} {base : ℕ} {w : Walk} → Starts m id s t ws base w → base ≤ 2 ^ 30 → (x : ℕ) → Touched ws x → SlotFirst t id base x
@@ -95,7 +109,7 @@ module _ (t : Table) (m : Mem) (id P : ℕ) (z : Sized t) where
     unfolding First applied
     first-runs bsr size f =
         address-runs id s t first-refused (length m) P bsr
-        (λ ws base nxt w b _ p h e clear.
+        (λ ws base nxt w b _ p h e. record { launched = omega (arith, first-none b); holds = λ clear.
         let low : base ≤ 2 ^ 30 = omega (arith, length-low t f) in
         let slot : Slot = record { state = nxt; base = base; entry = s .entry } in
         let two : List Store = store base (block (applied m ws) (P ⊕ 32) 32) ∷ store (base + 15) (slotStateByte (contextState nxt) ∷ []) ∷ [] in
@@ -108,13 +122,11 @@ module _ (t : Table) (m : Mem) (id P : ℕ) (z : Sized t) where
         (⊎-elim (first-before b low x) (λ d. inl (context-stores (applied m ws) (P ⊕ 32) base (base + 15) (slotStateByte (contextState nxt)) x (omega arith) (omega arith) d)) (touched-append ws two x q))))) in
         endpoint-slot _ id slot id 1
         ∙ endpoint-here (w .table) id 1 _ (first-sized b) (k .is) (omega arith)
-        ∙ ap waiting (launch-word n (base ⊕ 32 * 1) ((P ⊕ 32) + 32) (omega arith) (omega arith) ∙ kept))
+        ∙ ap waiting (launch-word n (base ⊕ 32 * 1) ((P ⊕ 32) + 32) (omega arith) (omega arith) ∙ kept) })
 
--- an endpoint that Address Device launches
+-- endpoint 1 after Address Device
 pub addressed : (id P : ℕ) (bsr : Bool) (t : Table) (m : Mem) → Sized t
-    → (let r = run (prog (addressDevice id P bsr) (length m) t) m 0 .value in
-      let word = (P ⊕ 32) + 32 + 8 in
-      r .0 .code ≡ 1 → ((x : ℕ) → Within word 8 x → SlotFirst t id (slotOf (r .1) id .base) x → ⊥) → endpointOf (r .1) id 1 ≡ waiting (block m word 8))
+    → (let r = run (prog (addressDevice id P bsr) (length m) t) m 0 .value in r .0 .code ≡ 1 → Addresses t m id P (r .0) (r .1))
 unfolding meaning commands.addressDevice First
 addressed id P bsr t m z =
     prog-runs (addressDevice id P bsr) t m (λ ws x. First t m id P z x)
@@ -134,6 +146,20 @@ Added m P j = (2 ≤ j) × (j ≤ 31) × (bit (number (block m (P ⊕ 4) 4)) j �
 pub data Before (t : Table) (m : Mem) (id P i x : ℕ) : Type 0 where
   byDrop : (j : ℕ) → Dropped m P j → isDisabled (endpointOf t id j) ≡ false → x ≡ slotOf t id .base ⊕ 32 * j → Before t m id P i x
   byAdd : (j : ℕ) → Added m P j → j < i → Within (slotOf t id .base ⊕ 32 * j) 32 x → Before t m id P i x
+
+-- Configure Endpoint, DC=0, by the input context at P took t to u and answered a with success: it launched the added endpoints and no other
+pub record Configures (t : Table) (m : Mem) (id P : ℕ) (a : Answer) (u : Table) : Type 0 where
+  pub launched : (i : ℕ) → Added m P i → bit (a .launched) i ≡ true
+  pub added : (i : ℕ) → bit (a .launched) i ≡ true → Added m P i
+  pub holds : (i : ℕ) → Added m P i
+      → (let word = (P ⊕ 32 * (i + 1)) + 8 in
+        ((x : ℕ) → Within word 8 x → Before t m id P i x → ⊥) → endpointOf u id i ≡ waiting (block m word 8))
+
+-- a word outside the device context is not stored to
+pub before-apart : (t : Table) (m : Mem) (id P i word : ℕ) → slotOf t id .base ≤ 2 ^ 30
+    → (word + 8 ≤ slotOf t id .base) ⊎ (slotOf t id .base + 1024 ≤ word) → (x : ℕ) → Within word 8 x → Before t m id P i x → ⊥
+before-apart t m id P i word low apart x w (byDrop j d e q) = ⊎-elim (λ l. omega arith) (λ l. omega arith) apart
+before-apart t m id P i word low apart x w (byAdd j a l v) = ⊎-elim (λ l. omega arith) (λ l. omega arith) apart
 
 before-up : {t : Table} {m : Mem} {id P i x : ℕ} (k : ℕ) → i ≤ k → Before t m id P i x → Before t m id P k x
 before-up k h (byDrop j d e q) = byDrop j d e q
@@ -162,7 +188,7 @@ module _ (t : Table) (m : Mem) (id P : ℕ) (z : Sized t) where
   Holds i u = ((x : ℕ) → Within (WordAt i) 8 x → Before t m id P i x → ⊥) → endpointOf u id i ≡ waiting (block m (WordAt i) 8)
 
   Later : Told → Type 0
-  Later x = x .0 .code ≡ 1 → (i : ℕ) → Added m P i → Holds i (x .1)
+  Later x = x .0 .code ≡ 1 → Configures t m id P (x .0) (x .1)
 
   later-refused : (c : ℕ) → 2 ≤ c → Later (told t (refuse c))
   unfolding Later
@@ -176,6 +202,7 @@ module _ (t : Table) (m : Mem) (id P : ℕ) (z : Sized t) where
     sized : Sized (w .table)
     ahead : (j : ℕ) → from ≤ j → endpointOf (w .table) id j ≡ endpointOf t id j
     stored : (x : ℕ) → Touched ws x → Before t m id P 0 x
+    none-yet : w .launched ≡ 0
 
   -- on the way down the adds
   record Adding-on (is : List ℕ) (ws : List Store) (w : Walk) : Type 0 where
@@ -184,7 +211,9 @@ module _ (t : Table) (m : Mem) (id P : ℕ) (z : Sized t) where
     left : All (λ i. Added m P i × (((P ⊕ 32 * (i + 1)) + 32 ≤ length m) × ((slotOf t id .base ⊕ 32 * i) + 32 ≤ length m))) is
     sized : Sized (w .table)
     stored : (x : ℕ) → Touched ws x → Before t m id P from x
-    done : (j : ℕ) → Added m P j → In j is ⊎ Holds j (w .table)
+    low : w .launched < 2 ^ from
+    only : (j : ℕ) → bit (w .launched) j ≡ true → Added m P j
+    done : (j : ℕ) → Added m P j → In j is ⊎ ((bit (w .launched) j ≡ true) × Holds j (w .table))
 
   drops-on : Dropping id (slotOf t id .base) Dropping-on
   unfolding Touched
@@ -192,13 +221,14 @@ module _ (t : Table) (m : Mem) (id P : ℕ) (z : Sized t) where
       record {
         skip = λ i is ws w d. let h = ascends-head (d .ascends) in record {
           from = i + 1; ascends = h .1; left = all-head (d .left) .1; sized = d .sized;
-          ahead = λ j q. d .ahead j (omega arith); stored = d .stored;
+          ahead = λ j q. d .ahead j (omega arith); stored = d .stored; none-yet = d .none-yet;
         };
         go = λ i is ws w d e. let h = ascends-head (d .ascends) in let a = all-head (d .left) in record {
           from = i + 1; ascends = h .1; left = a .1; sized = sized-endpoint (w .table) id i disabled (d .sized);
           ahead = λ j q. endpoint-other (w .table) id i j disabled (omega arith) (omega arith) (λ f. omega arith) ∙ d .ahead j (omega arith);
           stored = λ x q. ⊎-elim (d .stored x)
               (⊎-elim (λ v. byDrop i (a .0) (rw (← d .ahead i (h .0)) e) (omega arith)) (λ v. absurd v)) (touched-append ws _ x q);
+          none-yet = d .none-yet;
         };
       }
 
@@ -220,27 +250,41 @@ module _ (t : Table) (m : Mem) (id P : ℕ) (z : Sized t) where
         ∙ ap waiting (launch-word (applied m ws) At (P ⊕ 32 * (i + 1)) (omega arith) (omega arith)
         ∙ word-kept m ws (WordAt i) (λ x v q. clear x v (before-up i (h .0) (d .stored x q))))
 
-    done-next : (j : ℕ) → Added m P j → In j is ⊎ Holds j (withEndpoint (w .table) id i Made)
-    unfolding Holds
+    low-here : w .launched < 2 ^ i
+    low-here = omega (arith, d .low, pow-mono (ascends-head (d .ascends) .0))
+
+    Done : ℕ → Type 0
+    Done j = (bit (w .launched + 2 ^ i) j ≡ true) × Holds j (withEndpoint (w .table) id i Made)
+
+    done-next : (j : ℕ) → Added m P j → In j is ⊎ Done j
+    unfolding Holds Done
     done-next j f = ⊎-elim (λ p. ⊎-elim (λ e. inr (now e)) inl (in-cases p)) (λ g. inr (by (ℕ-discrete j i) g)) (d .done j f)
       where
-        now : j ≡ i → Holds j (withEndpoint (w .table) id i Made)
-        now e = subst (λ (k : ℕ). Holds k (withEndpoint (w .table) id i Made)) (sym e) made-holds
+        now : j ≡ i → Done j
+        now e = subst Done (sym e) (bit-added i (w .launched) low-here, made-holds)
 
-        by : Dec (j ≡ i) → Holds j (w .table) → Holds j (withEndpoint (w .table) id i Made)
+        by : Dec (j ≡ i) → (bit (w .launched) j ≡ true) × Holds j (w .table) → Done j
         by (yes e) g = now e
-        by (no e) g = λ clear. endpoint-other (w .table) id i j Made (omega (arith, all-head (d .left) .0)) (omega arith) e ∙ g clear
+        by (no e) g =
+            (bit-stays i (w .launched) j low-here (g .0),
+            λ clear. endpoint-other (w .table) id i j Made (omega (arith, all-head (d .left) .0)) (omega arith) e ∙ g .1 clear)
 
   adds-on : IsSlot id → Adding m id P (slotOf t id .base) Adding-on
+  unfolding Done
   adds-on n =
       record {
         turn = λ i is ws w d. let h = ascends-head (d .ascends) in let a = all-head (d .left) in record {
           from = i + 1; ascends = h .1; left = a .1; sized = sized-endpoint (w .table) id i _ (d .sized);
           stored = λ x q. ⊎-elim (λ v. before-up (i + 1) (omega arith) (d .stored x v))
               (λ v. byAdd i (a .0 .0) (omega arith) (context-stores (applied m ws) (P ⊕ 32 * (i + 1)) _ _ 1 x (omega arith) (omega arith) v)) (touched-append ws _ x q);
+          low = mask-low i (w .launched) (low-here n i is ws w d);
+          only = λ j e. ⊎-elim (λ q. subst (Added m P) (sym q) (a .0 .0)) (d .only j) (bit-of i (w .launched) j (low-here n i is ws w d) e);
           done = done-next n i is ws w d;
         };
       }
+
+  finished : {ws : List Store} {w : Walk} → Adding-on [] ws w → (j : ℕ) → Added m P j → (bit (w .launched) j ≡ true) × Holds j (w .table)
+  finished d j f = ⊎-elim (λ q. absurd (in-none q)) (λ h. h) (d .done j f)
 
   later-runs : IsSlot id → (accepts : ℕ → Bool) → Runs (commands.reconfigure accepts id P (slotOf t id) (length m) t) m (λ ws r. Later (told t r))
   unfolding Later Holds Touched
@@ -249,18 +293,21 @@ module _ (t : Table) (m : Mem) (id P : ℕ) (z : Sized t) where
       (λ a ws w d. record {
         from = 2; ascends = bits-ascend 30 2 _; left = both (flags _) a; sized = d .sized;
         stored = λ x q. before-up 2 (omega arith) (d .stored x q);
+        low = omega (arith, d .none-yet);
+        only = λ j e. absurd (bit-zero j (subst (λ (x : ℕ). bit x j ≡ true) (d .none-yet) e));
         done = λ j f. inl (those-in _ (count-in 30 2 j (f .0) (omega arith)) (f .2));
       })
-      (record { from = 2; ascends = bits-ascend 30 2 _; left = flags _; sized = z; ahead = λ j _. refl; stored = λ x q. absurd q })
-      (λ ws w d e i f clear. endpoint-slot (w .table) id _ id i ∙ ⊎-elim (λ q. absurd (in-none q)) (λ h. h) (d .done i f) clear)
+      (record { from = 2; ascends = bits-ascend 30 2 _; left = flags _; sized = z; ahead = λ j _. refl; stored = λ x q. absurd q; none-yet = refl })
+      (λ ws w d e. record {
+        launched = λ i f. finished d i f .0;
+        added = d .only;
+        holds = λ i f clear. endpoint-slot (w .table) id _ id i ∙ finished d i f .1 clear;
+      })
 
 -- the endpoints that Configure Endpoint with DC=0 launches
 pub configured : (id P : ℕ) (t : Table) (m : Mem) → Sized t
-    → (let r = run (prog (configureEndpoint id P false) (length m) t) m 0 .value in
-      r .0 .code ≡ 1 → (i : ℕ) → Added m P i
-      → (let word = (P ⊕ 32 * (i + 1)) + 8 in
-        ((x : ℕ) → Within word 8 x → Before t m id P i x → ⊥) → endpointOf (r .1) id i ≡ waiting (block m word 8)))
-unfolding meaning commands.configureEndpoint Later Holds
+    → (let r = run (prog (configureEndpoint id P false) (length m) t) m 0 .value in r .0 .code ≡ 1 → Configures t m id P (r .0) (r .1))
+unfolding meaning commands.configureEndpoint Later
 configured id P t m z =
     prog-runs (configureEndpoint id P false) t m (λ ws x. Later t m id P z x)
     (slot-runs (later-refused t m id P z) 11 (omega arith) t id _

@@ -5,7 +5,7 @@ use mathlib.Core.Logic.{_⊎_, inl, inr}
 use mathlib.Core.Bool.{Bool, true, false}
 use mathlib.Core.List.{List, [], _∷_}
 use Prim.Native.Nat.{ℕ, zero, suc, _+_, _-_, _*_, _/_, _%_, _^_, _≤_, _<_}
-use native.Mathlib.Nat.{pow-suc, pow-le-pow-right, add-mul-div-left, add-div-right, div-eq-of-lt, zero-div}
+use native.Mathlib.Nat.{pow-suc, add-mul-div-left, add-div-right, div-eq-of-lt, zero-div}
 use native.Mathlib.Numerals.{add-one}
 use native.Mathlib.Omega.{arith}
 use native.Mathlib.Decide.{ℕ-discrete, decLt}
@@ -62,16 +62,22 @@ abbrev pub Mask : ℕ → ℕ → Type 0
 Mask k x = (x < 2 ^ k) × (x % 2 ≡ 0)
 
 pub mask-up : (k i x : ℕ) → k ≤ i → Mask k x → Mask i x
-mask-up k i x h q = (omega (arith, pow-le-pow-right {n = 2} (omega arith) h), q .1)
+mask-up k i x h q = (omega (arith, pow-mono h), q .1)
 
 -- bit i joins the bits below it
+pub mask-low : (i x : ℕ) → x < 2 ^ i → x + 2 ^ i < 2 ^ (i + 1)
+mask-low i x h = rw (add-one i, pow-suc 2 i) (omega arith)
+
 pub mask-bit : (k i x : ℕ) → 1 ≤ k → k ≤ i → Mask k x → Mask (i + 1) (x + 2 ^ i)
 mask-bit k zero x p h q = absurd (omega arith)
-mask-bit k (suc i) x p h q = let below = mask-up k (suc i) x h q in let e : 2 ^ suc i ≡ 2 ^ i * 2 = pow-suc 2 i in rw (add-one (suc i), pow-suc 2 (suc i)) (omega arith)
+mask-bit k (suc i) x p h q =
+    let below = mask-up k (suc i) x h q in
+    let e : 2 ^ suc i ≡ 2 ^ i * 2 = pow-suc 2 i in
+    (mask-low (suc i) x (below .0), omega arith)
 
 -- a mask with a bit is not 0
 pub bit-some : (i x : ℕ) → x + 2 ^ i ≡ 0 → ⊥
-bit-some i x e = omega (arith, pow-le-pow-right {n = 2} (omega arith) {i = 0} {j = i} (omega arith))
+bit-some i x e = omega (arith, pow-pos i)
 
 -- ---- the bits of a mask to which bit i, above all of its bits, was added
 
