@@ -25,6 +25,8 @@ use Rattle.definition.specs.Commands.{Told, contextState, endpointCall}
 use Rattle.definition.specs.Calls.{Call, setLimit, setDcbaap, enableSlot, disableSlot, addressDevice, configureEndpoint, evaluateContext, resetDevice, resetAll, stopEndpoint, resetEndpoint, setDequeue, doorbell, hostOk, hostStall, hostTransactionError, hostTrbError, meaning, told, prog}
 use Rattle.definition.specs.Rules.{Opened}
 use Rattle.definition.proofs.TableLaws.{IsSlot, IsEndpoint, endpoint-elsewhere, endpoint-slot, slot-other, slot-endpoint}
+use Rattle.definition.proofs.MaskLaws.{all-head}
+use Rattle.definition.proofs.EndedLaws.{Known, known, length-low}
 use Rattle.definition.proofs.CountLaws.{Dropping, Adding, Starts, read, over, gives-up, copies, copied, half, settle, slot-runs, check-runs, settled-runs, deconfigure-runs, reconfigure-runs, address-runs, freeing-runs, reach-runs, prog-runs}
 
 -- ---- what is shown
@@ -59,62 +61,6 @@ pub record Isolated (id : ℕ) (t u : Table) (ws : List Store) : Type 0 where
   pub endpoints : (other j : ℕ) → 1 ≤ other → (other ≡ id → ⊥) → IsEndpoint j → endpointOf u other j ≡ endpointOf t other j
   pub within : (a : ℕ) → Touched ws a → Within (home id t u) 1024 a
 
--- ---- a slot in use
-
-not-true : (b : Bool) → not b ≡ true → b ≡ false
-not-true true e = sym e
-not-true false e = refl
-
--- what a lookup found
-pub used-slot : (t : Table) (id : ℕ) (s : Slot) → lookup t id ≡ Used s → (slotOf t id ≡ s) × IsSlot id × (isFree s ≡ false)
-unfolding lookup
-used-slot t id s u = by (leb 1 id && leb id 16) (not (isFree (slotOf t id))) refl refl u
-  where
-    by : (a b : Bool) → (leb 1 id && leb id 16) ≡ a → not (isFree (slotOf t id)) ≡ b → cond (a && b) (Used (slotOf t id)) Nothing ≡ Used s
-        → (slotOf t id ≡ s) × IsSlot id × (isFree s ≡ false)
-    by true true e d u =
-        let same : slotOf t id ≡ s = cc in
-        (same, (leb-true 1 id (and-left (leb 1 id) (leb id 16) e), leb-true id 16 (and-right (leb 1 id) (leb id 16) e)),
-        subst (λ (r : Slot). isFree r ≡ false) same (not-true (isFree (slotOf t id)) d))
-    by true false e d u = let z : _≡_ {A = ℕ} 0 1 = cc in absurd (omega arith)
-    by false b e d u = let z : _≡_ {A = ℕ} 0 1 = cc in absurd (omega arith)
-
--- the record of a slot in use lies in the array
-pub used-inside : (t : Table) (id : ℕ) → isFree (slotOf t id) ≡ false → id - 1 < length (t .slots)
-unfolding slotOf
-used-inside t id f = by (decLt (id - 1) (length (t .slots)))
-  where
-    by : Dec (id - 1 < length (t .slots)) → id - 1 < length (t .slots)
-    by (yes h) = h
-    by (no h) =
-        let e : getD (t .slots) (id - 1) free ≡ free = List·getD-eq-default (t .slots) free (omega arith) in
-        let z : isFree free ≡ false = subst (λ (r : Slot). isFree r ≡ false) e f in
-        let y : _≡_ {A = ℕ} 0 1 = cc in absurd (omega arith)
-
-pub length-low : (t : Table) → wellFormed t ≡ true → t .length ≤ 2 ^ 30
-unfolding wellFormed
-length-low t f =
-    leb-true (t .length) 1073741824 (and-right (leb (t .limit) 16) (leb (t .length) 1073741824) (and-left _ (all (count 16 1) (slotOk t)) f))
-
--- a base lies below the longest memory's end
-pub base-low : (t : Table) (id : ℕ) → wellFormed t ≡ true → IsSlot id → slotOf t id .base ≤ 2 ^ 30
-unfolding wellFormed slotOk usedOk
-base-low t id f n =
-    by (slotOf t id .state) (all-at (slotOk t) 16 1 (and-right (leb (t .limit) 16 && leb (t .length) 1073741824) (all (count 16 1) (slotOk t)) f) id (n .0) (omega arith))
-  where
-    used : usedOk t id (slotOf t id .base) ≡ true → slotOf t id .base ≤ 2 ^ 30
-    used h =
-        omega (arith, length-low t f, inside-yes (t .length) (slotOf t id .base) 64
-          (and-right (not (isDisabled (endpointOf t id 1))) (inside (t .length) (slotOf t id .base) 64)
-          (and-left _ (all (count 31 1) (λ i. endpointOk (t .length) (slotOf t id .base) i (endpointOf t id i))) h)))
-
-    by : (st : SlotState) → slotOkIn st (slotOf t id) t id ≡ true → slotOf t id .base ≤ 2 ^ 30
-    by Free h = omega (arith, eqb-true (slotOf t id .base) 0 (and-left _ (eqb (slotOf t id .entry) 0) (and-left _ (noEndpoint t id) h)))
-    by Enabled h = omega (arith, eqb-true (slotOf t id .base) 0 (and-left _ (noEndpoint t id) h))
-    by Default h = used h
-    by Addressed h = used h
-    by Configured h = used h
-
 -- ---- stores within a device context
 
 record Own (base : ℕ) (ws : List Store) : Type 0 where
@@ -142,9 +88,6 @@ record Aside (t : Table) (id base : ℕ) (is : List ℕ) (ws : List Store) (w : 
 
 aside-begin : (t : Table) (id base : ℕ) {is : List ℕ} → All IsEndpoint is → Aside t id base is [] (begin t)
 aside-begin t id base a = record { left = a; slots = refl; endpoints = λ other j _ _ _. refl; own = own-none base }
-
-pub all-head : {P : ℕ → Type 0} {i : ℕ} {is : List ℕ} → All P (i ∷ is) → P i × All P is
-all-head (more p a) = (p, a)
 
 module _ (t : Table) (id base : ℕ) (some : 1 ≤ id) (low : base ≤ 2 ^ 30) where
   -- endpoint i becomes e, and what is stored lies in the context
@@ -225,24 +168,7 @@ module _ (t : Table) (m : Mem) (id : ℕ) where
   refused : (c : ℕ) → 2 ≤ c → Alone [] (refuse c)
   refused c _ = same-table c
 
-  -- past 198, 194 and 11
-  pub record Known (s : Slot) : Type 0 where
-    pub same : slotOf t id ≡ s
-    pub is : IsSlot id
-    pub used : isFree s ≡ false
-    pub low : s .base ≤ 2 ^ 30
-    pub inside : id - 1 < length (t .slots)
-
-  pub known : (s : Slot) → Opened t m id s → Known s
-  known s o =
-      let u = used-slot t id s (o .used) in
-      record {
-        same = u .0; is = u .1; used = u .2;
-        low = subst (λ (r : Slot). r .base ≤ 2 ^ 30) (u .0) (base-low t id (o .formed) (u .1));
-        inside = used-inside t id (rw (u .0) (u .2));
-      }
-
-  module _ (s : Slot) (k : Known s) where
+  module _ (s : Slot) (k : Known t m id s) where
     -- the slot's state byte is stored last
     finish-alone : (ws : List Store) (w : Walk) (nxt : SlotState) → eqb (slotNumber nxt) 0 ≡ false → Aside t id (s .base) [] ws w
         → Alone (ws ++ store (s .base + 15) (slotStateByte (contextState nxt) ∷ []) ∷ []) (ok (settle id nxt (s .base) (s .entry) w))
@@ -298,7 +224,7 @@ module _ (t : Table) (m : Mem) (id : ℕ) where
   reach-alone noSlot noEndpoint i p q input =
       reach-runs refused noSlot noEndpoint id i p q input t
       (λ s ws r o e _ w.
-      let k = known s o in
+      let k = known t m id s o in
       record {
         slots = λ other _ _. slot-endpoint t id i (r .endpoint) other;
         endpoints = λ other j b n d. endpoint-elsewhere t id i other j (r .endpoint) (k .is .0) b n e d;

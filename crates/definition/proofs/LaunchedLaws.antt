@@ -25,9 +25,9 @@ use Rattle.definition.specs.Commands.{Told, usbTypes, contextState}
 use Rattle.definition.specs.Calls.{addressDevice, configureEndpoint, meaning, told, prog}
 use Rattle.definition.specs.Rules.{Opened}
 use Rattle.definition.proofs.TableLaws.{Sized, IsSlot, IsEndpoint, sized-endpoint, sized-slot, endpoint-here, endpoint-other, endpoint-slot, slot-here}
-use Rattle.definition.proofs.MaskLaws.{Ascends, ascends-head, bits-ascend, mask-low, bit-of, bit-added, bit-stays, bit-zero}
+use Rattle.definition.proofs.MaskLaws.{all-head, all-both, in-cases, in-none, Ascends, ascends-head, bits-ascend, mask-low, bit-of, bit-added, bit-stays, bit-zero}
 use Rattle.definition.proofs.CountLaws.{Dropping, Adding, Starts, read, over, gives-up, copies, copied, half, waiting, gone, slot-runs, check-runs, settled-runs, reconfigure-runs, address-runs, prog-runs}
-use Rattle.definition.proofs.IsolationLaws.{all-head, Known, known, length-low}
+use Rattle.definition.proofs.EndedLaws.{Known, known, length-low}
 
 -- ---- the word
 
@@ -165,17 +165,6 @@ before-up : {t : Table} {m : Mem} {id P i x : ℕ} (k : ℕ) → i ≤ k → Bef
 before-up k h (byDrop j d e q) = byDrop j d e q
 before-up k h (byAdd j a l w) = byAdd j a (omega arith) w
 
-in-cases : {i j : ℕ} {is : List ℕ} → In j (i ∷ is) → (j ≡ i) ⊎ In j is
-in-cases here = inl refl
-in-cases (there n) = inr n
-
-in-none : {j : ℕ} → In j [] → ⊥
-in-none h = elim h [ ]
-
-both : {P Q : ℕ → Type 0} {is : List ℕ} → All P is → All Q is → All (λ i. P i × Q i) is
-both none none = none
-both (more p a) (more q b) = more (p, q) (both a b)
-
 flags : (x : ℕ) → All (λ j. (2 ≤ j) × (j ≤ 31) × (bit x j ≡ true)) (setBits 30 2 x)
 flags x = all-map (λ j h. (h .0 .0, h .0 .1, h .1)) (those-all (λ j. (2 ≤ j) × (j ≤ 31)) (bit x) (count 30 2) (count-all _ 30 2 (λ j a b. (a, omega arith))))
 
@@ -291,7 +280,7 @@ module _ (t : Table) (m : Mem) (id P : ℕ) (z : Sized t) where
   later-runs n accepts =
       reconfigure-runs id (slotOf t id) t later-refused accepts (length m) P drops-on (adds-on n)
       (λ a ws w d. record {
-        from = 2; ascends = bits-ascend 30 2 _; left = both (flags _) a; sized = d .sized;
+        from = 2; ascends = bits-ascend 30 2 _; left = all-both (flags _) a; sized = d .sized;
         stored = λ x q. before-up 2 (omega arith) (d .stored x q);
         low = omega (arith, d .none-yet);
         only = λ j e. absurd (bit-zero j (subst (λ (x : ℕ). bit x j ≡ true) (d .none-yet) e));

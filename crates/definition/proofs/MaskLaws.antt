@@ -13,7 +13,23 @@ use borrow.Author.Tests.{eqb-true, eq-eqb}
 use lib.Pow.{pow-pos, pow-mono, pow-add}
 use lib.ListN.{length}
 use Rattle.guest.specs.Bytes.{count, those, setBits, bit}
-use Rattle.guest.proofs.ListLaws.{those-yes, those-no}
+use Rattle.guest.proofs.ListLaws.{All, none, more, In, here, there, those-yes, those-no}
+
+-- ---- lists
+
+pub all-head : {P : ℕ → Type 0} {i : ℕ} {is : List ℕ} → All P (i ∷ is) → P i × All P is
+all-head (more p a) = (p, a)
+
+pub all-both : {P Q : ℕ → Type 0} {is : List ℕ} → All P is → All Q is → All (λ i. P i × Q i) is
+all-both none none = none
+all-both (more p a) (more q b) = more (p, q) (all-both a b)
+
+pub in-cases : {i j : ℕ} {is : List ℕ} → In j (i ∷ is) → (j ≡ i) ⊎ In j is
+in-cases here = inl refl
+in-cases (there n) = inr n
+
+pub in-none : {j : ℕ} → In j [] → ⊥
+in-none h = elim h [ ]
 
 -- ---- ascending lists
 
