@@ -159,9 +159,9 @@ settle id next base entry w = (walked w, withSlot (w .table) id (record { state 
 
 -- how Address Device begins: the stores, the base and the walk before its copies
 pub data Starts (m : Mem) (id : ℕ) (s : Slot) (t : Table) : List Store → ℕ → Walk → Type 0 where
-  read : s .state ≡ Enabled → Starts m id s t [] (number (block m (s .entry) 8)) (begin t)
-  over : s .state ≡ Default → Starts m id s t [] (s .base) (begin t)
-  gives-up : s .state ≡ Default → Starts m id s t (store (s .base ⊕ 32 * 1) (0 ∷ []) ∷ []) (s .base) (gone id 1 (begin t))
+  fresh-base : s .state ≡ Enabled → Starts m id s t [] (number (block m (s .entry) 8)) (begin t)
+  kept-base : s .state ≡ Default → Starts m id s t [] (s .base) (begin t)
+  kept-ended : s .state ≡ Default → Starts m id s t (store (s .base ⊕ 32 * 1) (0 ∷ []) ∷ []) (s .base) (gone id 1 (begin t))
 
 -- the memory once the slot context and its state byte are stored; the four stores; the walk after the launch. The input's contexts are at c
 abbrev pub half : Mem → ℕ → ℕ → SlotState → Mem
@@ -220,7 +220,7 @@ module _ {m : Mem} {R : List Store → Result Told → Type 0} (id : ℕ) (s : S
           runs-need _ _ (r 193 (omega arith))
           (λ _. runs-get (runs-need _ _ (r 193 (omega arith))
           (λ a. runs-need _ _ (r 193 (omega arith))
-          (λ b. runs-get (runs-put (runs-put (runs-last _ (copy-runs id _ _ 1 (begin t) (g [] _ next (begin t) (read e) n a b)))))))))
+          (λ b. runs-get (runs-put (runs-put (runs-last _ (copy-runs id _ _ 1 (begin t) (g [] _ next (begin t) (fresh-base e) n a b)))))))))
 
       again-runs : s .state ≡ Default → (next : SlotState) → eqb (slotNumber next) 0 ≡ false → Runs (carryOut len P t id s (again next)) m R
       again-runs e next n =
@@ -228,7 +228,7 @@ module _ {m : Mem} {R : List Store → Result Told → Type 0} (id : ℕ) (s : S
           (λ a. runs-need _ _ (r 193 (omega arith))
           (λ b. runs-bind
           (λ ws w. Starts m id s t ws (s .base) w)
-          (terminate-runs id (s .base) 1 (begin t) (λ _. over e) (λ _. gives-up e))
+          (terminate-runs id (s .base) 1 (begin t) (λ _. kept-base e) (λ _. kept-ended e))
           (λ ws w q. runs-get (runs-put (runs-put (runs-last _ (copy-runs id _ _ 1 w (g ws _ next w q n a b))))))))
 
       by : (st : SlotState) (bsr : Bool) → s .state ≡ st → Runs (carryOut len P t id s (plan st bsr)) m R

@@ -39,12 +39,12 @@ terminate-entry StoppedContinuable h = refl
 terminate-entry Stopped h = refl
 
 -- what is left of an endpoint that a step ended
-abbrev pub over : Stepped
-over = record { endpoint = disabled; code = 1; submit = false; cancel = false }
+abbrev pub endedStep : Stepped
+endedStep = record { endpoint = disabled; code = 1; submit = false; cancel = false }
 
 -- both ways to end the endpoint e, whose context is at `at`: each stores the byte 0 there, and nothing else, and leaves a disabled record
 pub record Ended (e : Endpoint) (at : ℕ) : Type 0 where
-  pub by-step : step e Terminate at ≡ put at (0 ∷ []) (done (ok over))
+  pub by-step : step e Terminate at ≡ put at (0 ∷ []) (done (ok endedStep))
   pub by-command : terminateAt e at ≡ put at (0 ∷ []) (done disabled)
 
 -- an endpoint in any of the six states

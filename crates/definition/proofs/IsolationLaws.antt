@@ -27,7 +27,7 @@ use Rattle.definition.specs.Rules.{Opened}
 use Rattle.definition.proofs.TableLaws.{IsSlot, IsEndpoint, endpoint-elsewhere, endpoint-slot, slot-other, slot-endpoint}
 use Rattle.definition.proofs.MaskLaws.{all-head}
 use Rattle.definition.proofs.EndedLaws.{Known, known, length-low}
-use Rattle.definition.proofs.CountLaws.{Dropping, Adding, Starts, read, over, gives-up, copies, copied, half, settle, slot-runs, check-runs, settled-runs, deconfigure-runs, reconfigure-runs, address-runs, freeing-runs, reach-runs, prog-runs}
+use Rattle.definition.proofs.CountLaws.{Dropping, Adding, Starts, fresh-base, kept-base, kept-ended, copies, copied, half, settle, slot-runs, check-runs, settled-runs, deconfigure-runs, reconfigure-runs, address-runs, freeing-runs, reach-runs, prog-runs}
 
 -- ---- what is shown
 
@@ -191,9 +191,9 @@ module _ (t : Table) (m : Mem) (id : ℕ) where
 
     -- the base that Address Device goes by lies as low as a kept one
     begins-alone : {ws : List Store} {base : ℕ} {w : Walk} → base ≤ 2 ^ 30 → Starts m id s t ws base w → Aside t id base (1 ∷ []) ws w
-    begins-alone low (read e) = aside-begin t id _ one
-    begins-alone low (over e) = aside-begin t id _ one
-    begins-alone low (gives-up e) =
+    begins-alone low (fresh-base e) = aside-begin t id _ one
+    begins-alone low (kept-base e) = aside-begin t id _ one
+    begins-alone low (kept-ended e) =
         aside-one t id (s .base) (k .is .0) low 1 (1 ∷ []) [] _ (begin t) _ disabled refl
         (λ n. own-more (s .base) (s .base ⊕ 32 * 1) (0 ∷ []) (omega arith) (omega arith) (own-none (s .base))) (aside-begin t id (s .base) (more {i = 1} (omega arith) one))
 

@@ -16,7 +16,7 @@ use Rattle.guest.specs.Prog.{Mem, block, splice, run, Within, Store, Touched, R
 use Rattle.guest.proofs.ListLaws.{All, none, more, In, here, there, all-map, those-all, those-in, count-all, count-in}
 use Rattle.guest.proofs.SpliceLaws.{splice-length, block-length, block-at, block-same, block-other, block-here}
 use Rattle.guest.proofs.ReadLaws.{applied, applied-length, applied-append, applied-other}
-use Rattle.guest.proofs.StoreLaws.{Runs, store, runs-run, runs-last, touched-append}
+use Rattle.guest.proofs.StoreLaws.{block-kept, block-block, Runs, store, runs-run, runs-last, touched-append}
 use Rattle.definition.specs.Types.{Endpoint, SlotState, Default, Configured, Slot, Table, Answer}
 use Rattle.definition.specs.Table.{isDisabled, disabled, endpointOf, slotOf, withEndpoint, withSlot, wellFormed}
 use Rattle.definition.specs.Walks.{Walk, begin}
@@ -26,19 +26,10 @@ use Rattle.definition.specs.Calls.{addressDevice, configureEndpoint, mea
 use Rattle.definition.specs.Rules.{Opened}
 use Rattle.definition.proofs.TableLaws.{Sized, IsSlot, IsEndpoint, sized-endpoint, sized-slot, endpoint-here, endpoint-other, endpoint-slot, slot-here}
 use Rattle.definition.proofs.MaskLaws.{all-head, all-both, in-cases, in-none, Ascends, ascends-head, bits-ascend, mask-low, bit-of, bit-added, bit-stays, bit-zero}
-use Rattle.definition.proofs.CountLaws.{Dropping, Adding, Starts, read, over, gives-up, copies, copied, half, waiting, gone, slot-runs, check-runs, settled-runs, reconfigure-runs, address-runs, prog-runs}
+use Rattle.definition.proofs.CountLaws.{Dropping, Adding, Starts, fresh-base, kept-base, kept-ended, copies, copied, half, waiting, gone, slot-runs, check-runs, settled-runs, reconfigure-runs, address-runs, prog-runs}
 use Rattle.definition.proofs.EndedLaws.{Known, known, length-low}
 
 -- ---- the word
-
-block-block : (m : Mem) (a n i k : ℕ) → a + n ≤ length m → i + k ≤ n → block (block m a n) i k ≡ block m (a + i) k
-block-block m a n i k h l =
-    let inner : length (block m a n) ≡ n = block-length m a n h in
-    let left : length (block (block m a n) i k) ≡ k = block-length (block m a n) i k (omega arith) in
-    ext-getD 0 _ _ (left ∙ sym (block-length m (a + i) k (omega arith)))
-    (λ j q.
-    let e : a + (i + j) ≡ a + i + j = omega arith in
-    block-at (block m a n) i k j (omega arith) ∙ block-at m a n (i + j) (omega arith) ∙ rw e (sym (block-at m (a + i) k j (omega arith))))
 
 -- a launch takes the dequeue word of the context that was copied from c
 launch-word : (n : Mem) (at c : ℕ) → at + 32 ≤ length n → c + 32 ≤ length n
@@ -48,10 +39,6 @@ launch-word n at c h l =
     block-other (splice n at (block n c 32)) (at + 8) 8 at (1 ∷ []) (inr (omega arith))
     ∙ block-here n at (block n c 32) 8 8 (omega arith) (omega arith)
     ∙ block-block n c 32 8 8 l (omega arith)
-
--- a word that is not stored to
-word-kept : (m : Mem) (ws : List Store) (X : ℕ) → ((x : ℕ) → Within X 8 x → Touched ws x → ⊥) → block (applied m ws) X 8 ≡ block m X 8
-word-kept m ws X h = block-same (applied m ws) m X 8 (applied-length ws m) (λ a w. applied-other ws m a (h a w))
 
 -- ---- Address Device
 
@@ -88,21 +75,21 @@ module _ (t : Table) (m : Mem) (id P : ℕ) (z : Sized t) where
 
   module _ (s : Slot) (k : Known t m id s) where
     first-sized : {ws : List Store} {base : ℕ} {w : Walk} → Starts m id s t ws base w → Sized (w .table)
-    first-sized (read e) = z
-    first-sized (over e) = z
-    first-sized (gives-up e) = sized-endpoint t id 1 disabled z
+    first-sized (fresh-base e) = z
+    first-sized (kept-base e) = z
+    first-sized (kept-ended e) = sized-endpoint t id 1 disabled z
 
     first-none : {ws : List Store} {base : ℕ} {w : Walk} → Starts m id s t ws base w → w .launched ≡ 0
-    first-none (read e) = refl
-    first-none (over e) = refl
-    first-none (gives-up e) = refl
+    first-none (fresh-base e) = refl
+    first-none (kept-base e) = refl
+    first-none (kept-ended e) = refl
 
     -- what is stored before the slot context
     first-before : {ws : List Store} {base : ℕ} {w : Walk} → Starts m id s t ws base w → base ≤ 2 ^ 30 → (x : ℕ) → Touched ws x → SlotFirst t id base x
     unfolding Touched
-    first-before (read e) low x h = absurd h
-    first-before (over e) low x h = absurd h
-    first-before (gives-up e) low x h = ⊎-elim (λ w. inr (ap (λ (r : Slot). r .state) (k .same) ∙ e, omega arith)) (λ q. absurd q) h
+    first-before (fresh-base e) low x h = absurd h
+    first-before (kept-base e) low x h = absurd h
+    first-before (kept-ended e) low x h = ⊎-elim (λ w. inr (ap (λ (r : Slot). r .state) (k .same) ∙ e, omega arith)) (λ q. absurd q) h
 
     first-runs : (bsr : Bool) → t .length ≡ length m → wellFormed t ≡ true
         → Runs (commands.carryOut (length m) P t id s (commands.plan (s .state) bsr)) m (λ ws r. First (told t r))
@@ -116,7 +103,7 @@ module _ (t : Table) (m : Mem) (id P : ℕ) (z : Sized t) where
         let n : Mem = half (applied m ws) (P ⊕ 32) base nxt in
         let same : applied m (ws ++ two) ≡ n = applied-append ws two m in
         let long : length n ≡ length m = sym (ap length same) ∙ applied-length (ws ++ two) m in
-        let kept : block n FirstWord 8 ≡ block m FirstWord 8 = rw same at (word-kept m (ws ++ two) FirstWord
+        let kept : block n FirstWord 8 ≡ block m FirstWord 8 = rw same at (block-kept m (ws ++ two) FirstWord 8
         (λ x v q. clear x v (subst (λ (r : Slot). SlotFirst t id (r .base) x)
         (sym (slot-here _ id slot (sized-endpoint (w .table) id 1 _ (first-sized b)) (k .is)))
         (⊎-elim (first-before b low x) (λ d. inl (context-stores (applied m ws) (P ⊕ 32) base (base + 15) (slotStateByte (contextState nxt)) x (omega arith) (omega arith) d)) (touched-append ws two x q))))) in
@@ -237,7 +224,7 @@ module _ (t : Table) (m : Mem) (id P : ℕ) (z : Sized t) where
         let long : length (applied m ws) ≡ length m = applied-length ws m in
         endpoint-here (w .table) id i Made (d .sized) n (omega arith)
         ∙ ap waiting (launch-word (applied m ws) At (P ⊕ 32 * (i + 1)) (omega arith) (omega arith)
-        ∙ word-kept m ws (WordAt i) (λ x v q. clear x v (before-up i (h .0) (d .stored x q))))
+        ∙ block-kept m ws (WordAt i) 8 (λ x v q. clear x v (before-up i (h .0) (d .stored x q))))
 
     low-here : w .launched < 2 ^ i
     low-here = omega (arith, d .low, pow-mono (ascends-head (d .ascends) .0))

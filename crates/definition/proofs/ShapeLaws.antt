@@ -20,7 +20,7 @@ use Rattle.definition.specs.Commands as commands
 use Rattle.definition.specs.Commands.{contextState, Told, answer, walked, stepped, endpointCall}
 use Rattle.definition.specs.Calls.{Call, setLimit, setDcbaap, enableSlot, disableSlot, addressDevice, configureEndpoint, evaluateContext, resetDevice, resetAll, stopEndpoint, resetEndpoint, setDequeue, doorbell, hostOk, hostStall, hostTransactionError, hostTrbError, meaning, told, prog}
 use Rattle.definition.proofs.MaskLaws.{Ascends, ends, next, Mask, mask-up, mask-bit, bit-some, ascends-below, ascends-length, count-ascends, bits-ascend, ascends-head, ascends-from}
-use Rattle.definition.proofs.CountLaws.{Starts, read, over, gives-up, copies, copied, half, Dropping, Adding, gone, slot-runs, formed-runs, lent-runs, check-runs, settled-runs, deconfigure-runs, reconfigure-runs, address-runs, freeing-runs, reach-runs, prog-runs}
+use Rattle.definition.proofs.CountLaws.{Starts, fresh-base, kept-base, kept-ended, copies, copied, half, Dropping, Adding, gone, slot-runs, formed-runs, lent-runs, check-runs, settled-runs, deconfigure-runs, reconfigure-runs, address-runs, freeing-runs, reach-runs, prog-runs}
 
 -- the most bytes that a call stores
 abbrev pub mostStored : Call → ℕ
@@ -164,9 +164,9 @@ one-more ws a b = total-append ws (store a (b ∷ []) ∷ [])
 -- how Address Device begins
 started : {m : Mem} {id : ℕ} {s : Slot} {t : Table} {ws : List Store} {base : ℕ} {w : Walk} → Starts m id s t ws base w → Going 2 1 w × (total ws ≤ 1)
 unfolding total
-started (read e) = (record { ended = omega arith; begun = omega arith; port = λ _. refl }, omega arith)
-started (over e) = (record { ended = omega arith; begun = omega arith; port = λ _. refl }, omega arith)
-started (gives-up e) = (record { ended = omega arith; begun = omega arith; port = λ _. refl }, omega arith)
+started (fresh-base e) = (record { ended = omega arith; begun = omega arith; port = λ _. refl }, omega arith)
+started (kept-base e) = (record { ended = omega arith; begun = omega arith; port = λ _. refl }, omega arith)
+started (kept-ended e) = (record { ended = omega arith; begun = omega arith; port = λ _. refl }, omega arith)
 
 -- ---- commands
 

@@ -7,9 +7,11 @@ use mathlib.Core.List.{List, [], _∷_, _++_, append-assoc, append-nil}
 use Prim.Native.Nat.{ℕ, _+_, _≤_}
 use native.Mathlib.Omega.{arith}
 use lib.ListN.{length}
+use lib.Seq.{ext-getD}
 use Rattle.guest.specs.Bytes.{inside}
 use Rattle.guest.specs.Prog.{Mem, Prog, done, get, put, block, splice, run, Within, Store, stores, Touched, choose, bind, each, Result, ok, refuse, need, passed, andThen, every}
-use Rattle.guest.proofs.ReadLaws.{applied, applied-append, total, run-count}
+use Rattle.guest.proofs.SpliceLaws.{block-length, block-at, block-same}
+use Rattle.guest.proofs.ReadLaws.{applied, applied-append, applied-length, applied-other, total, run-count}
 use Rattle.guest.proofs.RunLaws.{inside-yes}
 use Rattle.guest.proofs.ListLaws.{All, none, more}
 
@@ -134,3 +136,17 @@ unfolding Touched
 touched-append [] vs a t = inr t
 touched-append (w ∷ ws) vs a (inl h) = inl (inl h)
 touched-append (w ∷ ws) vs a (inr t) = ⊎-elim (λ q. inl (inr q)) inr (touched-append ws vs a t)
+
+-- a block that no store meets is kept
+pub block-kept : (m : Mem) (ws : List Store) (a n : ℕ) → ((x : ℕ) → Within a n x → Touched ws x → ⊥) → block (applied m ws) a n ≡ block m a n
+block-kept m ws a n h = block-same (applied m ws) m a n (applied-length ws m) (λ x w. applied-other ws m x (h x w))
+
+-- a block of a block
+pub block-block : (m : Mem) (a n i k : ℕ) → a + n ≤ length m → i + k ≤ n → block (block m a n) i k ≡ block m (a + i) k
+block-block m a n i k h l =
+    let inner : length (block m a n) ≡ n = block-length m a n h in
+    let left : length (block (block m a n) i k) ≡ k = block-length (block m a n) i k (omega arith) in
+    ext-getD 0 _ _ (left ∙ sym (block-length m (a + i) k (omega arith)))
+    (λ j q.
+    let e : a + (i + j) ≡ a + i + j = omega arith in
+    block-at (block m a n) i k j (omega arith) ∙ block-at m a n (i + j) (omega arith) ∙ rw e (sym (block-at m (a + i) k j (omega arith))))
