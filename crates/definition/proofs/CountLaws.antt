@@ -1,25 +1,25 @@
 -- What each part of a call stores and gives: a rule for each, over whatever is to be shown.
 -- Assumes nothing.
-use mathlib.Core.Path.{_≡_, refl, sym, ap, _∙_}
-use mathlib.Core.Logic.{_⊎_, inl, inr, ⊎-elim}
-use mathlib.Core.Bool.{Bool, true, false, not, _&&_, cond}
+use mathlib.Core.Path.{_≡_, refl}
+use mathlib.Core.Logic.{⊎-elim}
+use mathlib.Core.Bool.{Bool, true, false, not, _&&_}
 use mathlib.Core.List.{List, [], _∷_, _++_, append-nil, append-assoc}
-use Prim.Native.Nat.{ℕ, zero, suc, _+_, _*_, _^_, _≤_}
+use Prim.Native.Nat.{ℕ, _+_, _*_, _^_, _≤_}
 use native.Mathlib.Nat.{add-zero}
 use native.Mathlib.Omega.{arith}
 use borrow.Author.Tests.{ltb-true, eqb-true, leb-true}
 use lib.Dec.{leb, eqb}
-use lib.ListN.{length, length-take}
+use lib.ListN.{length}
 use Rattle.guest.specs.Bytes.{count, setBits, slotStateByte, number, bytes, _⊕_, pointerOf, cycleOf}
-use Rattle.guest.specs.Prog.{Mem, Prog, done, get, put, run, block, splice, Within, Store, stores, Touched, choose, each, Result, ok, refuse, andThen, passed}
+use Rattle.guest.specs.Prog.{Mem, Prog, done, run, block, splice, Within, Store, stores, Touched, each, Result, ok, refuse, andThen, passed}
 use Rattle.guest.proofs.ListLaws.{All, and-left, and-right}
 use Rattle.guest.proofs.ReadLaws.{applied, total}
 use Rattle.guest.proofs.StoreLaws.{Runs, runs-run, store, runs-done, runs-get, runs-put, runs-choose, runs-need, runs-bind, runs-last, Quietly, runs-then, runs-every, runs-map, runs-each, each-from}
-use Rattle.definition.specs.Types.{Endpoint, Waiting, Input, SlotState, Free, Enabled, Default, Addressed, Configured, Slot, Table, Lookup, Used, Nothing, Row, Report}
-use Rattle.definition.specs.Table.{slotNumber, isDisabled, isFree, disabled, free, endpointOf, slotOf, withEndpoint, withSlot, lookup, wellFormed}
-use Rattle.definition.specs.Steps.{Stepped, entry, reportOf, stepBy, step, launchAt, terminateAt}
+use Rattle.definition.specs.Types.{Endpoint, Waiting, Input, SlotState, Free, Enabled, Default, Addressed, Configured, Slot, Table, Lookup, Used, Nothing}
+use Rattle.definition.specs.Table.{slotNumber, isDisabled, disabled, free, endpointOf, slotOf, withEndpoint, withSlot, lookup, wellFormed}
+use Rattle.definition.specs.Steps.{Stepped, entry, stepBy, step, launchAt, terminateAt}
 use Rattle.definition.specs.Walks.{Walk, begin, terminateAll, begun, ended, terminate, launch, copyLaunch}
-use Rattle.definition.specs.Commands.{formed, lent, found, onSlot, onEndpoint, checkType, contextCheck, settled, needContexts, add, contextState, walked, finish, deconfigure, reconfigure, carryOut, copyContexts, Plan, fresh, again, plan, freeing, endpointCall, Told, stepped}
+use Rattle.definition.specs.Commands.{formed, lent, found, onSlot, onEndpoint, checkType, contextCheck, settled, needContexts, add, contextState, walked, finish, deconfigure, reconfigure, carryOut, copyContexts, fresh, again, plan, freeing, endpointCall, Told, stepped}
 use Rattle.definition.specs.Calls.{Call, meaning, told, prog}
 use Rattle.definition.specs.Rules.{Opened, Settled, isAddressed, isConfigured}
 use Rattle.definition.proofs.TableLaws.{endpoint-back, IsEndpoint}
@@ -52,8 +52,8 @@ waiting word = record { state = Waiting; cycle = cycleOf (number word); pointer 
 
 pub copy-runs : {m : Mem} {R : List Store → Walk → Type 0} (id base c i : ℕ) (w : Walk)
     → (let at = base ⊕ 32 * i in
-      let n = splice m at (block m c 32) in
-      R (store at (block m c 32) ∷ store at (1 ∷ []) ∷ []) (begun id i (number (block n (base + 6) 1)) (waiting (block (splice n at (1 ∷ [])) (at + 8) 8)) w))
+    let n = splice m at (block m c 32) in
+    R (store at (block m c 32) ∷ store at (1 ∷ []) ∷ []) (begun id i (number (block n (base + 6) 1)) (waiting (block (splice n at (1 ∷ [])) (at + 8) 8)) w))
     → Runs (copyLaunch id base c i w) m R
 unfolding copyLaunch launch launchAt
 copy-runs id base c i w h = runs-get (runs-put (runs-get (runs-last _ (runs-put (runs-get (runs-done h))))))
@@ -140,10 +140,10 @@ terminate-all-runs {m} id base is w {I} e h =
 pub record Adding (m : Mem) (id P base : ℕ) (I : Held) : Type 0 where
   pub turn : (i : ℕ) (is : List ℕ) (ws : List Store) (w : Walk) → I (i ∷ is) ws w
       → (let at = base ⊕ 32 * i in
-        let context = block (applied m ws) (P ⊕ 32 * (i + 1)) 32 in
-        let n = splice (applied m ws) at context in
-        I is (ws ++ store at context ∷ store at (1 ∷ []) ∷ [])
-        (begun id i (number (block n (base + 6) 1)) (waiting (block (splice n at (1 ∷ [])) (at + 8) 8)) w))
+      let context = block (applied m ws) (P ⊕ 32 * (i + 1)) 32 in
+      let n = splice (applied m ws) at context in
+      I is (ws ++ store at context ∷ store at (1 ∷ []) ∷ [])
+      (begun id i (number (block n (base + 6) 1)) (waiting (block (splice n at (1 ∷ [])) (at + 8) 8)) w))
 
 pub add-all-runs : {m : Mem} {id P base : ℕ} (is : List ℕ) (ws : List Store) (w : Walk) {I : Held} → Adding m id P base I → I is ws w
     → Runs (each is (add id P base) w) (applied m ws) (λ vs v. I [] (ws ++ vs) v)
@@ -192,7 +192,7 @@ module _ {m : Mem} {R : List Store → Result Told → Type 0} (id : ℕ) (s : S
   -- the walk of the drops holds J, that of the adds K
   pub reconfigure-runs : ((c : ℕ) → 2 ≤ c → R [] (refuse c)) → (accepts : ℕ → Bool) (len P : ℕ) {J K : Held} → Dropping id (s .base) J → Adding m id P (s .base) K
       → (let adds = setBits 30 2 (number (block m (P ⊕ 4) 4)) in
-        All (λ i. ((P ⊕ 32 * (i + 1)) + 32 ≤ len) × ((s .base ⊕ 32 * i) + 32 ≤ len)) adds → (ws : List Store) (w : Walk) → J [] ws w → K adds ws w)
+      All (λ i. ((P ⊕ 32 * (i + 1)) + 32 ≤ len) × ((s .base ⊕ 32 * i) + 32 ≤ len)) adds → (ws : List Store) (w : Walk) → J [] ws w → K adds ws w)
       → J (setBits 30 2 (number (block m P 4))) [] (begin t)
       → ((ws : List Store) (w : Walk) → K [] ws w
       → R (ws ++ store (s .base + 15) (slotStateByte (contextState Configured) ∷ []) ∷ []) (ok (settle id Configured (s .base) (s .entry) w)))

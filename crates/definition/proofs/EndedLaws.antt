@@ -1,8 +1,8 @@
 -- A slot in use, and how its endpoints end: Terminate ends an endpoint in all six states, and an Enabled slot has none.
 -- Assumes nothing.
-use mathlib.Core.Path.{_≡_, refl, sym, ap, subst, _∙_}
+use mathlib.Core.Path.{_≡_, refl, sym, subst}
 use mathlib.Core.Bool.{Bool, true, false, not, cond, _&&_}
-use mathlib.Core.List.{List, [], _∷_, _++_}
+use mathlib.Core.List.{List, [], _∷_}
 use Prim.Native.Nat.{ℕ, _-_, _^_, _≤_, _<_}
 use native.Mathlib.Omega.{arith}
 use native.Mathlib.Decide.{decLt}
@@ -10,11 +10,11 @@ use borrow.Author.Tests.{leb-true, eqb-true}
 use lib.Dec.{leb, eqb}
 use lib.ListN.{length, getD, List·getD-eq-default}
 use Rattle.guest.specs.Bytes.{inside, count}
-use Rattle.guest.specs.Prog.{Mem, Prog, done, put, choose, Store, stores, all, Result, ok}
+use Rattle.guest.specs.Prog.{Mem, done, put, choose, Store, stores, all, ok}
 use Rattle.guest.proofs.ListLaws.{All, all-at, and-left, and-right, count-all}
 use Rattle.guest.proofs.RunLaws.{inside-yes}
 use Rattle.guest.proofs.StoreLaws.{runs-last}
-use Rattle.definition.specs.Types.{EndpointState, Disabled, Waiting, InFlight, Halted, Error, StoppedContinuable, Stopped, Endpoint, SlotState, Free, Enabled, Default, Addressed, Configured, Slot, Table, Lookup, Used, Nothing, Terminate}
+use Rattle.definition.specs.Types.{EndpointState, Disabled, Waiting, InFlight, Halted, Error, StoppedContinuable, Stopped, Endpoint, SlotState, Free, Enabled, Default, Addressed, Configured, Slot, Table, Used, Nothing, Terminate}
 use Rattle.definition.specs.Table.{endpointNumber, isDisabled, isFree, disabled, free, endpointOf, slotOf, lookup, isZero, endpointOk, usedOk, noEndpoint, slotOkIn, slotOk, wellFormed}
 use Rattle.definition.specs.Steps.{end, entry, Stepped, stepBy, step, terminateAt}
 use Rattle.definition.specs.Walks.{Walk}
@@ -66,9 +66,11 @@ used-slot t id s u = by (leb 1 id && leb id 16) (not (isFree (slotOf t id))) ref
     by : (a b : Bool) → (leb 1 id && leb id 16) ≡ a → not (isFree (slotOf t id)) ≡ b → cond (a && b) (Used (slotOf t id)) Nothing ≡ Used s
         → (slotOf t id ≡ s) × IsSlot id × (isFree s ≡ false)
     by true true e d u =
-        let same : slotOf t id ≡ s = cc in
-        (same, (leb-true 1 id (and-left (leb 1 id) (leb id 16) e), leb-true id 16 (and-right (leb 1 id) (leb id 16) e)),
-        subst (λ (r : Slot). isFree r ≡ false) same (not-true (isFree (slotOf t id)) d))
+        let same : slotOf t id ≡ s = cc in (
+          same,
+          (leb-true 1 id (and-left (leb 1 id) (leb id 16) e), leb-true id 16 (and-right (leb 1 id) (leb id 16) e)),
+          subst (λ (r : Slot). isFree r ≡ false) same (not-true (isFree (slotOf t id)) d),
+        )
     by true false e d u = let z : _≡_ {A = ℕ} 0 1 = cc in absurd (omega arith)
     by false b e d u = let z : _≡_ {A = ℕ} 0 1 = cc in absurd (omega arith)
 
@@ -101,9 +103,13 @@ base-low t id f n = by (slotOf t id .state) (slot-ok t id f n)
   where
     used : usedOk t id (slotOf t id .base) ≡ true → slotOf t id .base ≤ 2 ^ 30
     used h =
-        omega (arith, length-low t f, inside-yes (t .length) (slotOf t id .base) 64
-          (and-right (not (isDisabled (endpointOf t id 1))) (inside (t .length) (slotOf t id .base) 64)
-          (and-left _ (all (count 31 1) (λ i. endpointOk (t .length) (slotOf t id .base) i (endpointOf t id i))) h)))
+        omega (
+          arith,
+          length-low t f,
+          inside-yes (t .length) (slotOf t id .base) 64
+              (and-right (not (isDisabled (endpointOf t id 1))) (inside (t .length) (slotOf t id .base) 64)
+              (and-left _ (all (count 31 1) (λ i. endpointOk (t .length) (slotOf t id .base) i (endpointOf t id i))) h)),
+        )
 
     by : (st : SlotState) → slotOkIn st (slotOf t id) t id ≡ true → slotOf t id .base ≤ 2 ^ 30
     by Free h = omega (arith, eqb-true (slotOf t id .base) 0 (and-left _ (eqb (slotOf t id .entry) 0) (and-left _ (noEndpoint t id) h)))
@@ -124,7 +130,9 @@ pub known : (t : Table) (m : Mem) (id : ℕ) (s : Slot) → Opened t m id s → 
 known t m id s o =
     let u = used-slot t id s (o .used) in
     record {
-      same = u .0; is = u .1; used = u .2;
+      same = u .0;
+      is = u .1;
+      used = u .2;
       low = subst (λ (r : Slot). r .base ≤ 2 ^ 30) (u .0) (base-low t id (o .formed) (u .1));
       inside = used-inside t id (rw (u .0) (u .2));
     }

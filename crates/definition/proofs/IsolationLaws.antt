@@ -1,30 +1,26 @@
 -- A call on one slot leaves every other slot as it was, and stores only within its own device context.
 -- Assumes nothing.
 use mathlib.Core.Path.{_≡_, refl, sym, ap, subst, _∙_}
-use mathlib.Core.Logic.{_⊎_, inl, inr, ⊎-elim}
-use mathlib.Core.Bool.{Bool, true, false, not, cond, _&&_}
+use mathlib.Core.Logic.{⊎-elim}
+use mathlib.Core.Bool.{Bool, true, false, cond}
 use mathlib.Core.List.{List, [], _∷_, _++_}
-use Prim.Native.Nat.{ℕ, _+_, _-_, _*_, _%_, _^_, _≤_, _<_}
+use Prim.Native.Nat.{ℕ, _+_, _-_, _*_, _^_, _≤_, _<_}
 use native.Mathlib.Omega.{arith}
-use native.Mathlib.Decide.{decLt}
-use borrow.Author.Tests.{leb-true, eqb-true}
-use lib.Dec.{leb, eqb}
-use lib.ListN.{length, getD, drop, length-take, List·getD-eq-default}
+use lib.Dec.{eqb}
+use lib.ListN.{length, drop, length-take}
 use lib.Seq.{getD-set-same}
-use Rattle.guest.specs.Bytes.{number, _⊕_, inside, count, setBits, bit, slotStateByte}
-use Rattle.guest.specs.Prog.{Mem, block, run, Within, Store, stores, Touched, Writes, all, Result, ok, refuse}
-use Rattle.guest.proofs.ListLaws.{All, none, more, all-map, all-at, and-left, and-right, count-all, those-all}
-use Rattle.guest.proofs.RunLaws.{inside-yes}
+use Rattle.guest.specs.Bytes.{_⊕_, inside, count, setBits, bit, slotStateByte}
+use Rattle.guest.specs.Prog.{Mem, block, run, Within, Store, stores, Touched, Result, ok, refuse}
+use Rattle.guest.proofs.ListLaws.{All, none, more, all-map, count-all, those-all}
 use Rattle.guest.proofs.ReadLaws.{applied}
-use Rattle.guest.proofs.StoreLaws.{Runs, store, runs-run, runs-done, runs-last, touched-append}
-use Rattle.definition.specs.Types.{Input, Endpoint, SlotState, Free, Enabled, Default, Addressed, Configured, Slot, Table, Lookup, Used, Nothing}
-use Rattle.definition.specs.Table.{slotNumber, isDisabled, isFree, disabled, free, endpointOf, slotOf, withEndpoint, withSlot, lookup, endpointOk, usedOk, noEndpoint, slotOkIn, slotOk, wellFormed}
+use Rattle.guest.proofs.StoreLaws.{Runs, store, runs-done, runs-last, touched-append}
+use Rattle.definition.specs.Types.{Input, Endpoint, SlotState, Default, Addressed, Configured, Slot, Table}
+use Rattle.definition.specs.Table.{slotNumber, isFree, disabled, free, endpointOf, slotOf, withEndpoint, withSlot, noEndpoint, wellFormed}
 use Rattle.definition.specs.Walks.{Walk, begin}
 use Rattle.definition.specs.Commands as commands
 use Rattle.definition.specs.Commands.{Told, contextState, endpointCall}
 use Rattle.definition.specs.Calls.{Call, setLimit, setDcbaap, enableSlot, disableSlot, addressDevice, configureEndpoint, evaluateContext, resetDevice, resetAll, stopEndpoint, resetEndpoint, setDequeue, doorbell, hostOk, hostStall, hostTransactionError, hostTrbError, meaning, told, prog}
-use Rattle.definition.specs.Rules.{Opened}
-use Rattle.definition.proofs.TableLaws.{IsSlot, IsEndpoint, endpoint-elsewhere, endpoint-slot, slot-other, slot-endpoint}
+use Rattle.definition.proofs.TableLaws.{IsEndpoint, endpoint-elsewhere, endpoint-slot, slot-other, slot-endpoint}
 use Rattle.definition.proofs.MaskLaws.{all-head}
 use Rattle.definition.proofs.EndedLaws.{Known, known, length-low}
 use Rattle.definition.proofs.CountLaws.{Dropping, Adding, Starts, fresh-base, kept-base, kept-ended, copies, copied, half, settle, slot-runs, check-runs, settled-runs, deconfigure-runs, reconfigure-runs, address-runs, freeing-runs, reach-runs, prog-runs}
@@ -175,7 +171,9 @@ module _ (t : Table) (m : Mem) (id : ℕ) where
     finish-alone ws w nxt n a =
         aside-settled t id (s .base) (k .is .0) (k .low) (k .inside) _ w
         (record {
-          left = none; slots = a .slots; endpoints = a .endpoints;
+          left = none;
+          slots = a .slots;
+          endpoints = a .endpoints;
           own = own-append (s .base) ws _ (a .own) (own-more (s .base) (s .base + 15) _ (omega arith) (omega arith) (own-none (s .base)));
         }) nxt (s .entry) n
 

@@ -8,25 +8,23 @@ use mathlib.Core.List.{List, [], _∷_, _++_}
 use Prim.Native.Nat.{ℕ, _+_, _*_, _^_, _≤_, _<_}
 use native.Mathlib.Omega.{arith}
 use native.Mathlib.Decide.{ℕ-discrete}
-use lib.ListN.{length, getD, drop, length-take}
+use lib.ListN.{length, drop, length-take}
 use lib.Pow.{pow-mono}
-use lib.Seq.{ext-getD}
 use Rattle.guest.specs.Bytes.{number, _⊕_, count, setBits, bit, slotStateByte}
-use Rattle.guest.specs.Prog.{Mem, block, splice, run, Within, Store, Touched, Result, ok, refuse}
-use Rattle.guest.proofs.ListLaws.{All, none, more, In, here, there, all-map, those-all, those-in, count-all, count-in}
-use Rattle.guest.proofs.SpliceLaws.{splice-length, block-length, block-at, block-same, block-other, block-here}
-use Rattle.guest.proofs.ReadLaws.{applied, applied-length, applied-append, applied-other}
-use Rattle.guest.proofs.StoreLaws.{block-kept, block-block, Runs, store, runs-run, runs-last, touched-append}
-use Rattle.definition.specs.Types.{Endpoint, SlotState, Default, Configured, Slot, Table, Answer}
-use Rattle.definition.specs.Table.{isDisabled, disabled, endpointOf, slotOf, withEndpoint, withSlot, wellFormed}
-use Rattle.definition.specs.Walks.{Walk, begin}
+use Rattle.guest.specs.Prog.{Mem, block, splice, run, Within, Store, Touched, refuse}
+use Rattle.guest.proofs.ListLaws.{All, In, all-map, those-all, those-in, count-all, count-in}
+use Rattle.guest.proofs.SpliceLaws.{block-length, block-other, block-here}
+use Rattle.guest.proofs.ReadLaws.{applied, applied-length, applied-append}
+use Rattle.guest.proofs.StoreLaws.{block-kept, block-block, Runs, store, touched-append}
+use Rattle.definition.specs.Types.{Endpoint, Default, Slot, Table, Answer}
+use Rattle.definition.specs.Table.{isDisabled, disabled, endpointOf, slotOf, withEndpoint, wellFormed}
+use Rattle.definition.specs.Walks.{Walk}
 use Rattle.definition.specs.Commands as commands
 use Rattle.definition.specs.Commands.{Told, usbTypes, contextState}
 use Rattle.definition.specs.Calls.{addressDevice, configureEndpoint, meaning, told, prog}
-use Rattle.definition.specs.Rules.{Opened}
-use Rattle.definition.proofs.TableLaws.{Sized, IsSlot, IsEndpoint, sized-endpoint, sized-slot, endpoint-here, endpoint-other, endpoint-slot, slot-here}
+use Rattle.definition.proofs.TableLaws.{Sized, IsSlot, sized-endpoint, endpoint-here, endpoint-other, endpoint-slot, slot-here}
 use Rattle.definition.proofs.MaskLaws.{all-head, all-both, in-cases, in-none, Ascends, ascends-head, bits-ascend, mask-low, bit-of, bit-added, bit-stays, bit-zero}
-use Rattle.definition.proofs.CountLaws.{Dropping, Adding, Starts, fresh-base, kept-base, kept-ended, copies, copied, half, waiting, gone, slot-runs, check-runs, settled-runs, reconfigure-runs, address-runs, prog-runs}
+use Rattle.definition.proofs.CountLaws.{Dropping, Adding, Starts, fresh-base, kept-base, kept-ended, half, waiting, slot-runs, check-runs, settled-runs, reconfigure-runs, address-runs, prog-runs}
 use Rattle.definition.proofs.EndedLaws.{Known, known, length-low}
 
 -- ---- the word
@@ -50,7 +48,7 @@ SlotFirst t id base x = Within base 32 x ⊎ ((slotOf t id .state ≡ Default) �
 pub record Addresses (t : Table) (m : Mem) (id P : ℕ) (a : Answer) (u : Table) : Type 0 where
   pub launched : a .launched ≡ 2
   pub holds : (let word = (P ⊕ 32) + 32 + 8 in
-        ((x : ℕ) → Within word 8 x → SlotFirst t id (slotOf u id .base) x → ⊥) → endpointOf u id 1 ≡ waiting (block m word 8))
+      ((x : ℕ) → Within word 8 x → SlotFirst t id (slotOf u id .base) x → ⊥) → endpointOf u id 1 ≡ waiting (block m word 8))
 
 -- a word outside the device context is not stored to
 pub slot-apart : (t : Table) (id base word : ℕ) → (word + 8 ≤ base) ⊎ (base + 1024 ≤ word) → (x : ℕ) → Within word 8 x → SlotFirst t id base x → ⊥
@@ -96,20 +94,23 @@ module _ (t : Table) (m : Mem) (id P : ℕ) (z : Sized t) where
     unfolding First applied
     first-runs bsr size f =
         address-runs id s t first-refused (length m) P bsr
-        (λ ws base nxt w b _ p h e. record { launched = omega (arith, first-none b); holds = λ clear.
-        let low : base ≤ 2 ^ 30 = omega (arith, length-low t f) in
-        let slot : Slot = record { state = nxt; base = base; entry = s .entry } in
-        let two : List Store = store base (block (applied m ws) (P ⊕ 32) 32) ∷ store (base + 15) (slotStateByte (contextState nxt) ∷ []) ∷ [] in
-        let n : Mem = half (applied m ws) (P ⊕ 32) base nxt in
-        let same : applied m (ws ++ two) ≡ n = applied-append ws two m in
-        let long : length n ≡ length m = sym (ap length same) ∙ applied-length (ws ++ two) m in
-        let kept : block n FirstWord 8 ≡ block m FirstWord 8 = rw same at (block-kept m (ws ++ two) FirstWord 8
-        (λ x v q. clear x v (subst (λ (r : Slot). SlotFirst t id (r .base) x)
-        (sym (slot-here _ id slot (sized-endpoint (w .table) id 1 _ (first-sized b)) (k .is)))
-        (⊎-elim (first-before b low x) (λ d. inl (context-stores (applied m ws) (P ⊕ 32) base (base + 15) (slotStateByte (contextState nxt)) x (omega arith) (omega arith) d)) (touched-append ws two x q))))) in
-        endpoint-slot _ id slot id 1
-        ∙ endpoint-here (w .table) id 1 _ (first-sized b) (k .is) (omega arith)
-        ∙ ap waiting (launch-word n (base ⊕ 32 * 1) ((P ⊕ 32) + 32) (omega arith) (omega arith) ∙ kept) })
+        (λ ws base nxt w b _ p h e. record {
+          launched = omega (arith, first-none b);
+          holds = λ clear.
+              let low : base ≤ 2 ^ 30 = omega (arith, length-low t f) in
+              let slot : Slot = record { state = nxt; base = base; entry = s .entry } in
+              let two : List Store = store base (block (applied m ws) (P ⊕ 32) 32) ∷ store (base + 15) (slotStateByte (contextState nxt) ∷ []) ∷ [] in
+              let n : Mem = half (applied m ws) (P ⊕ 32) base nxt in
+              let same : applied m (ws ++ two) ≡ n = applied-append ws two m in
+              let long : length n ≡ length m = sym (ap length same) ∙ applied-length (ws ++ two) m in
+              let kept : block n FirstWord 8 ≡ block m FirstWord 8 = rw same at (block-kept m (ws ++ two) FirstWord 8
+              (λ x v q. clear x v (subst (λ (r : Slot). SlotFirst t id (r .base) x)
+              (sym (slot-here _ id slot (sized-endpoint (w .table) id 1 _ (first-sized b)) (k .is)))
+              (⊎-elim (first-before b low x) (λ d. inl (context-stores (applied m ws) (P ⊕ 32) base (base + 15) (slotStateByte (contextState nxt)) x (omega arith) (omega arith) d)) (touched-append ws two x q))))) in
+              endpoint-slot _ id slot id 1
+              ∙ endpoint-here (w .table) id 1 _ (first-sized b) (k .is) (omega arith)
+              ∙ ap waiting (launch-word n (base ⊕ 32 * 1) ((P ⊕ 32) + 32) (omega arith) (omega arith) ∙ kept);
+        })
 
 -- endpoint 1 after Address Device
 pub addressed : (id P : ℕ) (bsr : Bool) (t : Table) (m : Mem) → Sized t
@@ -140,7 +141,7 @@ pub record Configures (t : Table) (m : Mem) (id P : ℕ) (a : Answer) (u : Table
   pub added : (i : ℕ) → bit (a .launched) i ≡ true → Added m P i
   pub holds : (i : ℕ) → Added m P i
       → (let word = (P ⊕ 32 * (i + 1)) + 8 in
-        ((x : ℕ) → Within word 8 x → Before t m id P i x → ⊥) → endpointOf u id i ≡ waiting (block m word 8))
+      ((x : ℕ) → Within word 8 x → Before t m id P i x → ⊥) → endpointOf u id i ≡ waiting (block m word 8))
 
 -- a word outside the device context is not stored to
 pub before-apart : (t : Table) (m : Mem) (id P i word : ℕ) → slotOf t id .base ≤ 2 ^ 30
@@ -196,11 +197,19 @@ module _ (t : Table) (m : Mem) (id P : ℕ) (z : Sized t) where
   drops-on =
       record {
         skip = λ i is ws w d. let h = ascends-head (d .ascends) in record {
-          from = i + 1; ascends = h .1; left = all-head (d .left) .1; sized = d .sized;
-          ahead = λ j q. d .ahead j (omega arith); stored = d .stored; none-yet = d .none-yet;
+          from = i + 1;
+          ascends = h .1;
+          left = all-head (d .left) .1;
+          sized = d .sized;
+          ahead = λ j q. d .ahead j (omega arith);
+          stored = d .stored;
+          none-yet = d .none-yet;
         };
         go = λ i is ws w d e. let h = ascends-head (d .ascends) in let a = all-head (d .left) in record {
-          from = i + 1; ascends = h .1; left = a .1; sized = sized-endpoint (w .table) id i disabled (d .sized);
+          from = i + 1;
+          ascends = h .1;
+          left = a .1;
+          sized = sized-endpoint (w .table) id i disabled (d .sized);
           ahead = λ j q. endpoint-other (w .table) id i j disabled (omega arith) (omega arith) (λ f. omega arith) ∙ d .ahead j (omega arith);
           stored = λ x q. ⊎-elim (d .stored x)
               (⊎-elim (λ v. byDrop i (a .0) (rw (← d .ahead i (h .0)) e) (omega arith)) (λ v. absurd v)) (touched-append ws _ x q);
@@ -241,16 +250,20 @@ module _ (t : Table) (m : Mem) (id P : ℕ) (z : Sized t) where
 
         by : Dec (j ≡ i) → (bit (w .launched) j ≡ true) × Holds j (w .table) → Done j
         by (yes e) g = now e
-        by (no e) g =
-            (bit-stays i (w .launched) j low-here (g .0),
-            λ clear. endpoint-other (w .table) id i j Made (omega (arith, all-head (d .left) .0)) (omega arith) e ∙ g .1 clear)
+        by (no e) g = (
+          bit-stays i (w .launched) j low-here (g .0),
+          λ clear. endpoint-other (w .table) id i j Made (omega (arith, all-head (d .left) .0)) (omega arith) e ∙ g .1 clear,
+        )
 
   adds-on : IsSlot id → Adding m id P (slotOf t id .base) Adding-on
   unfolding Done
   adds-on n =
       record {
         turn = λ i is ws w d. let h = ascends-head (d .ascends) in let a = all-head (d .left) in record {
-          from = i + 1; ascends = h .1; left = a .1; sized = sized-endpoint (w .table) id i _ (d .sized);
+          from = i + 1;
+          ascends = h .1;
+          left = a .1;
+          sized = sized-endpoint (w .table) id i _ (d .sized);
           stored = λ x q. ⊎-elim (λ v. before-up (i + 1) (omega arith) (d .stored x v))
               (λ v. byAdd i (a .0 .0) (omega arith) (context-stores (applied m ws) (P ⊕ 32 * (i + 1)) _ _ 1 x (omega arith) (omega arith) v)) (touched-append ws _ x q);
           low = mask-low i (w .launched) (low-here n i is ws w d);
@@ -267,7 +280,10 @@ module _ (t : Table) (m : Mem) (id P : ℕ) (z : Sized t) where
   later-runs n accepts =
       reconfigure-runs id (slotOf t id) t later-refused accepts (length m) P drops-on (adds-on n)
       (λ a ws w d. record {
-        from = 2; ascends = bits-ascend 30 2 _; left = all-both (flags _) a; sized = d .sized;
+        from = 2;
+        ascends = bits-ascend 30 2 _;
+        left = all-both (flags _) a;
+        sized = d .sized;
         stored = λ x q. before-up 2 (omega arith) (d .stored x q);
         low = omega (arith, d .none-yet);
         only = λ j e. absurd (bit-zero j (subst (λ (x : ℕ). bit x j ≡ true) (d .none-yet) e));

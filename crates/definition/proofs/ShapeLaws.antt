@@ -1,17 +1,17 @@
 -- The shape of every answer: how much a call stores at most, which bits its masks hold, and what is 0.
 -- Assumes nothing.
-use mathlib.Core.Path.{_≡_, refl, ap, subst}
+use mathlib.Core.Path.{_≡_, refl}
 use mathlib.Core.Bool.{Bool, true, false, cond}
 use mathlib.Core.List.{List, [], _∷_, _++_}
 use Prim.Native.Nat.{ℕ, _+_, _*_, _%_, _^_, _≤_, _<_}
 use native.Mathlib.Nat.{zero-add}
 use native.Mathlib.Omega.{arith}
 use lib.ListN.{length, drop, length-take}
-use Rattle.guest.specs.Bytes.{number, _⊕_, slotStateByte, count, setBits, bit, those}
-use Rattle.guest.specs.Prog.{Mem, Prog, done, bind, each, stores, block, run, Store, Result, ok, refuse}
-use Rattle.guest.proofs.ListLaws.{count-length, those-length}
+use Rattle.guest.specs.Bytes.{number, _⊕_, slotStateByte, count, setBits, those}
+use Rattle.guest.specs.Prog.{Mem, done, bind, each, stores, block, run, Store, Result, refuse}
+use Rattle.guest.proofs.ListLaws.{count-length}
 use Rattle.guest.proofs.ReadLaws.{applied, total, run-count}
-use Rattle.guest.proofs.StoreLaws.{Runs, store, runs-run, runs-done, runs-choose, runs-last, runs-map, runs-each, total-append}
+use Rattle.guest.proofs.StoreLaws.{Runs, store, runs-done, runs-choose, runs-last, runs-map, runs-each, total-append}
 use Rattle.definition.specs.Types.{Input, SlotState, Default, Addressed, Configured, Slot, Table, Answer}
 use Rattle.definition.specs.Table.{isFree, slotOf}
 use Rattle.definition.specs.Walks.{Walk, begin}
@@ -19,8 +19,8 @@ use Rattle.definition.specs.Steps.{Stepped}
 use Rattle.definition.specs.Commands as commands
 use Rattle.definition.specs.Commands.{contextState, Told, answer, walked, stepped, endpointCall}
 use Rattle.definition.specs.Calls.{Call, setLimit, setDcbaap, enableSlot, disableSlot, addressDevice, configureEndpoint, evaluateContext, resetDevice, resetAll, stopEndpoint, resetEndpoint, setDequeue, doorbell, hostOk, hostStall, hostTransactionError, hostTrbError, meaning, told, prog}
-use Rattle.definition.proofs.MaskLaws.{Ascends, ends, next, Mask, mask-up, mask-bit, bit-some, ascends-below, ascends-length, count-ascends, bits-ascend, ascends-head, ascends-from}
-use Rattle.definition.proofs.CountLaws.{Starts, fresh-base, kept-base, kept-ended, copies, copied, half, Dropping, Adding, gone, slot-runs, formed-runs, lent-runs, check-runs, settled-runs, deconfigure-runs, reconfigure-runs, address-runs, freeing-runs, reach-runs, prog-runs}
+use Rattle.definition.proofs.MaskLaws.{Ascends, Mask, mask-up, mask-bit, bit-some, ascends-below, ascends-length, count-ascends, bits-ascend, ascends-head, ascends-from}
+use Rattle.definition.proofs.CountLaws.{Starts, fresh-base, kept-base, kept-ended, copies, copied, half, Dropping, Adding, slot-runs, formed-runs, lent-runs, check-runs, settled-runs, deconfigure-runs, reconfigure-runs, address-runs, freeing-runs, reach-runs, prog-runs}
 
 -- the most bytes that a call stores
 abbrev pub mostStored : Call → ℕ
@@ -65,8 +65,13 @@ flag-small false = omega arith
 shape-stepped : (c : Call) (n : ℕ) (r : Stepped) → n ≤ mostStored c → Shape c n (stepped r)
 shape-stepped c n r h =
     record {
-      stored = h; launched = omega arith; terminated = omega arith; slot = λ _. refl; port = λ _. refl;
-      submit = flag-small (r .submit); cancel = flag-small (r .cancel);
+      stored = h;
+      launched = omega arith;
+      terminated = omega arith;
+      slot = λ _. refl;
+      port = λ _. refl;
+      submit = flag-small (r .submit);
+      cancel = flag-small (r .cancel);
     }
 
 -- a walk that has terminated endpoints below k and launched some below l
@@ -136,8 +141,11 @@ joins n m id P base =
               begun = mask-bit (d .from) i (w .launched) (d .low) (h .0) (d .going .begun);
               port = λ e. absurd (bit-some i (w .launched) e);
             };
-            stored = omega (arith, total-append ws (store (base ⊕ 32 * i) (block (applied m ws) (P ⊕ 32 * (i + 1)) 32) ∷ store (base ⊕ 32 * i) (1 ∷ []) ∷ []),
-              length-take 32 (drop (P ⊕ 32 * (i + 1)) (applied m ws)));
+            stored = omega (
+              arith,
+              total-append ws (store (base ⊕ 32 * i) (block (applied m ws) (P ⊕ 32 * (i + 1)) 32) ∷ store (base ⊕ 32 * i) (1 ∷ []) ∷ []),
+              length-take 32 (drop (P ⊕ 32 * (i + 1)) (applied m ws)),
+            );
           };
     }
 
@@ -190,8 +198,11 @@ module _ (c : Call) (t : Table) where
       (λ _ ws w d.
       let e = drops-end 30 ws w d in
       record {
-        from = 1; low = omega arith; left = ascends-from 1 (omega arith) (bits-ascend 30 2 (number (block m (P ⊕ 4) 4)));
-        going = e .0; stored = omega (arith, bits-few (number (block m (P ⊕ 4) 4)));
+        from = 1;
+        low = omega arith;
+        left = ascends-from 1 (omega arith) (bits-ascend 30 2 (number (block m (P ⊕ 4) 4)));
+        going = e .0;
+        stored = omega (arith, bits-few (number (block m (P ⊕ 4) 4)));
       })
       (drops-begin 30 t (ascends-from 1 (omega arith) (bits-ascend 30 2 (number (block m P 4)))) (bits-few (number (block m P 4))))
       (λ ws w d. shape-walked c _ w (omega (arith, one-more ws (s .base + 15) (slotStateByte (contextState Configured))))
@@ -209,9 +220,12 @@ module _ (c : Call) (t : Table) where
     where
       copies-few : (ws : List Store) (base : ℕ) (nxt : SlotState) → total ws ≤ 1 → 67 ≤ mostStored c → total (ws ++ copies (applied m ws) (P ⊕ 32) base nxt) ≤ mostStored c
       copies-few ws base nxt h q =
-          omega (arith, total-append ws (copies (applied m ws) (P ⊕ 32) base nxt), length-take 32 (drop (P ⊕ 32) (applied m ws)),
-            length-take 32 (drop ((P ⊕ 32) + 32) (half (applied m ws) (P ⊕ 32) base nxt)))
-
+          omega (
+            arith,
+            total-append ws (copies (applied m ws) (P ⊕ 32) base nxt),
+            length-take 32 (drop (P ⊕ 32) (applied m ws)),
+            length-take 32 (drop ((P ⊕ 32) + 32) (half (applied m ws) (P ⊕ 32) base nxt)),
+          )
 
   freeing-fits : {m : Mem} {R : List Store → Walk → Type 0} (id : ℕ) (u : Table) → ((ws : List Store) (w : Walk) → Going 32 32 w → total ws ≤ 31 → R ws w)
       → Runs (commands.freeing id u) m R

@@ -1,6 +1,6 @@
 -- What a run stores and gives, by the program's parts: one rule for each way to make a program.
 -- Assumes nothing.
-use mathlib.Core.Path.{_≡_, refl, sym, subst, _∙_}
+use mathlib.Core.Path.{_≡_, refl, sym, _∙_}
 use mathlib.Core.Logic.{_⊎_, inl, inr, ⊎-elim}
 use mathlib.Core.Bool.{Bool, true, false}
 use mathlib.Core.List.{List, [], _∷_, _++_, append-assoc, append-nil}
@@ -8,10 +8,9 @@ use Prim.Native.Nat.{ℕ, _+_, _≤_}
 use native.Mathlib.Omega.{arith}
 use lib.ListN.{length}
 use lib.Seq.{ext-getD}
-use Rattle.guest.specs.Bytes.{inside}
 use Rattle.guest.specs.Prog.{Mem, Prog, done, get, put, block, splice, run, Within, Store, stores, Touched, choose, bind, each, Result, ok, refuse, need, passed, andThen, every}
 use Rattle.guest.proofs.SpliceLaws.{block-length, block-at, block-same}
-use Rattle.guest.proofs.ReadLaws.{applied, applied-append, applied-length, applied-other, total, run-count}
+use Rattle.guest.proofs.ReadLaws.{applied, applied-append, applied-length, applied-other, total}
 use Rattle.guest.proofs.RunLaws.{inside-yes}
 use Rattle.guest.proofs.ListLaws.{All, none, more}
 
@@ -79,7 +78,7 @@ runs-bind {p = get a n k} {f} {m} {R} Q h g = record { holds = runs-bind {p = k 
 runs-bind {p = put a bs p} {f} {m} {R} Q h g =
     record {
       holds = runs-bind {p = p} {f = f} {R = λ ws y. R (store a bs ∷ ws) y} (λ ws x. Q (store a bs ∷ ws) x)
-          (record { holds = h .holds }) (λ ws x q. record { holds = g (store a bs ∷ ws) x q .holds }) .holds
+          (record { holds = h .holds }) (λ ws x q. record { holds = g (store a bs ∷ ws) x q .holds }) .holds;
     }
 
 -- the last part only makes a value of the first's
