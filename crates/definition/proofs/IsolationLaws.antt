@@ -14,7 +14,7 @@ use Rattle.guest.specs.Prog.{Mem, block, run, Within, Store, stores, Touched, R
 use Rattle.guest.proofs.ListLaws.{All, none, more, all-map, count-all, those-all}
 use Rattle.guest.proofs.ReadLaws.{applied}
 use Rattle.guest.proofs.StoreLaws.{Runs, store, runs-done, runs-last, touched-append}
-use Rattle.definition.specs.Types.{Input, Endpoint, SlotState, Default, Addressed, Configured, Slot, Table}
+use Rattle.definition.specs.Types.{Enabled, Input, Endpoint, SlotState, Default, Addressed, Configured, Slot, Table}
 use Rattle.definition.specs.Table.{slotNumber, isFree, disabled, free, endpointOf, slotOf, withEndpoint, withSlot, noEndpoint, wellFormed}
 use Rattle.definition.specs.Walks.{Walk, begin}
 use Rattle.definition.specs.Commands as commands
@@ -51,11 +51,12 @@ slotIn (hostTrbError id i) = id
 abbrev pub home : ℕ → Table → Table → ℕ
 home id t u = cond (isFree (slotOf u id)) (slotOf t id .base) (slotOf u id .base)
 
--- t became u, and the stores ws were made
+-- t became u, and the stores ws were made. Only an Enabled slot gets another base
 pub record Isolated (id : ℕ) (t u : Table) (ws : List Store) : Type 0 where
   pub slots : (other : ℕ) → 1 ≤ other → (other ≡ id → ⊥) → slotOf u other ≡ slotOf t other
   pub endpoints : (other j : ℕ) → 1 ≤ other → (other ≡ id → ⊥) → IsEndpoint j → endpointOf u other j ≡ endpointOf t other j
   pub within : (a : ℕ) → Touched ws a → Within (home id t u) 1024 a
+  pub kept : (slotOf t id .state ≡ Enabled → ⊥) → home id t u ≡ slotOf t id .base
 
 -- ---- stores within a device context
 
@@ -119,7 +120,8 @@ module _ (t : Table) (id base : ℕ) (some : 1 ≤ id) (low : base ≤ 2 ^ 30) w
       }
 
   -- the slot changes at the end
-  module _ (inside : id - 1 < length (t .slots)) (ws : List Store) (w : Walk) (a : Aside t id base [] ws w) where
+  module _ (inside : id - 1 < length (t .slots)) (keeps : (slotOf t id .state ≡ Enabled → ⊥) → base ≡ slotOf t id .base)
+      (ws : List Store) (w : Walk) (a : Aside t id base [] ws w) where
     slot-set : (s : Slot) → slotOf (withSlot (w .table) id s) id ≡ s
     unfolding slotOf withSlot
     slot-set s = getD-set-same (w .table .slots) (id - 1) s free (rw (a .slots) inside)
@@ -131,6 +133,7 @@ module _ (t : Table) (id base : ℕ) (some : 1 ≤ id) (low : base ≤ 2 ^ 30) w
           slots = λ other b n. slot-other (w .table) id s other some b n ∙ rw (a .slots);
           endpoints = λ other j b n k. endpoint-slot (w .table) id s other j ∙ a .endpoints other j b n k;
           within = λ b q. subst (λ (x : ℕ). Within x 1024 b) (sym e) (a .own .at b q);
+          kept = λ n. e ∙ keeps n;
         }
 
     aside-settled : (nxt : SlotState) (entry : ℕ) → eqb (slotNumber nxt) 0 ≡ false
@@ -138,7 +141,7 @@ module _ (t : Table) (id base : ℕ) (some : 1 ≤ id) (low : base ≤ 2 ^ 30) w
     aside-settled nxt entry n = aside-slot _ (rw (slot-set (record { state = nxt; base = base; entry = entry }), n))
 
     aside-freed : slotOf t id .base ≡ base → Isolated id t (withSlot (w .table) id free) ws
-    aside-freed e = aside-slot _ (rw (slot-set free, e))
+    aside-freed e = aside-slot free (rw (slot-set free, e))
 
 -- ---- commands
 
@@ -152,6 +155,10 @@ flagged x = all-map (λ i h. h .0) (those-all IsEndpoint (bit x) (count 30 2) la
 one : All IsEndpoint (1 ∷ [])
 one = more {i = 1} (omega arith) none
 
+either : (b : Bool) (x : ℕ) → cond b x x ≡ x
+either true x = refl
+either false x = refl
+
 module _ (t : Table) (m : Mem) (id : ℕ) where
   -- what is shown of a call's program
   abbrev Alone : List Store → Result Told → Type 0
@@ -159,7 +166,8 @@ module _ (t : Table) (m : Mem) (id : ℕ) where
 
   same-table : (c : ℕ) → Alone [] (refuse c)
   unfolding Touched
-  same-table c = record { slots = λ other _ _. refl; endpoints = λ other j _ _ _. refl; within = λ a h. absurd h }
+  same-table c =
+      record { slots = λ other _ _. refl; endpoints = λ other j _ _ _. refl; within = λ a h. absurd h; kept = λ _. either (isFree (slotOf t id)) (slotOf t id .base) }
 
   refused : (c : ℕ) → 2 ≤ c → Alone [] (refuse c)
   refused c _ = same-table c
@@ -169,7 +177,7 @@ module _ (t : Table) (m : Mem) (id : ℕ) where
     finish-alone : (ws : List Store) (w : Walk) (nxt : SlotState) → eqb (slotNumber nxt) 0 ≡ false → Aside t id (s .base) [] ws w
         → Alone (ws ++ store (s .base + 15) (slotStateByte (contextState nxt) ∷ []) ∷ []) (ok (settle id nxt (s .base) (s .entry) w))
     finish-alone ws w nxt n a =
-        aside-settled t id (s .base) (k .is .0) (k .low) (k .inside) _ w
+        aside-settled t id (s .base) (k .is .0) (k .low) (k .inside) (λ _. ap (λ (r : Slot). r .base) (sym (k .same))) _ w
         (record {
           left = none;
           slots = a .slots;
@@ -187,13 +195,18 @@ module _ (t : Table) (m : Mem) (id : ℕ) where
         (λ _ ws w a. record { left = flagged _; slots = a .slots; endpoints = a .endpoints; own = a .own })
         (aside-begin t id (s .base) (flagged _)) (λ ws w a. finish-alone ws w Configured refl a)
 
-    -- the base that Address Device goes by lies as low as a kept one
+    begins-kept : {ws : List Store} {base : ℕ} {w : Walk} → Starts m id s t ws base w → (slotOf t id .state ≡ Enabled → ⊥) → base ≡ slotOf t id .base
+    begins-kept (fresh-base e) n = absurd (n (ap (λ (r : Slot). r .state) (k .same) ∙ e))
+    begins-kept (kept-base e) n = ap (λ (r : Slot). r .base) (sym (k .same))
+    begins-kept (kept-ended e) n = ap (λ (r : Slot). r .base) (sym (k .same))
+
     begins-alone : {ws : List Store} {base : ℕ} {w : Walk} → base ≤ 2 ^ 30 → Starts m id s t ws base w → Aside t id base (1 ∷ []) ws w
     begins-alone low (fresh-base e) = aside-begin t id _ one
     begins-alone low (kept-base e) = aside-begin t id _ one
     begins-alone low (kept-ended e) =
         aside-one t id (s .base) (k .is .0) low 1 (1 ∷ []) [] _ (begin t) _ disabled refl
-        (λ n. own-more (s .base) (s .base ⊕ 32 * 1) (0 ∷ []) (omega arith) (omega arith) (own-none (s .base))) (aside-begin t id (s .base) (more {i = 1} (omega arith) one))
+        (λ n. own-more (s .base) (s .base ⊕ 32 * 1) (0 ∷ []) (omega arith) (omega arith) (own-none (s .base)))
+        (aside-begin t id (s .base) (more {i = 1} (omega arith) one))
 
     address-alone : (P : ℕ) (bsr : Bool) → t .length ≡ length m → wellFormed t ≡ true
         → Runs (commands.carryOut (length m) P t id s (commands.plan (s .state) bsr)) m Alone
@@ -201,8 +214,9 @@ module _ (t : Table) (m : Mem) (id : ℕ) where
         address-runs id s t refused (length m) P bsr
         (λ ws base nxt w b n _ h.
         let low : base ≤ 2 ^ 30 = omega (arith, length-low t f) in
-        aside-settled t id base (k .is .0) low (k .inside) _ (copied (applied m ws) (P ⊕ 32) id base nxt w)
-        (aside-one t id base (k .is .0) low 1 [] ws (copies (applied m ws) (P ⊕ 32) base nxt) w _ _ refl (λ _. copies-own (applied m ws) base nxt low) (begins-alone low b)) nxt (s .entry) n)
+        aside-settled t id base (k .is .0) low (k .inside) (begins-kept b) _ (copied (applied m ws) (P ⊕ 32) id base nxt w)
+        (aside-one t id base (k .is .0) low 1 [] ws (copies (applied m ws) (P ⊕ 32) base nxt) w _ _ refl
+        (λ _. copies-own (applied m ws) base nxt low) (begins-alone low b)) nxt (s .entry) n)
       where
         copies-own : (n : Mem) (base : ℕ) (nxt : SlotState) → base ≤ 2 ^ 30 → Own base (copies n (P ⊕ 32) base nxt)
         copies-own n base nxt low =
@@ -216,19 +230,19 @@ module _ (t : Table) (m : Mem) (id : ℕ) where
     disable-alone =
         let low : slotOf t id .base ≤ 2 ^ 30 = rw (k .same) (k .low) in
         freeing-runs id t (aside-drops t id (slotOf t id .base) (k .is .0) low) (aside-begin t id _ (count-all IsEndpoint 31 1 (λ j a b. omega arith)))
-        (λ ws w a. aside-freed t id (slotOf t id .base) (k .is .0) low (k .inside) ws w a refl)
+        (λ ws w a. aside-freed t id (slotOf t id .base) (k .is .0) low (k .inside) (λ _. refl) ws w a refl)
 
   reach-alone : (noSlot noEndpoint i : ℕ) → 2 ≤ noSlot → 2 ≤ noEndpoint → (input : Input) → Runs (endpointCall noSlot noEndpoint id i input (length m) t) m Alone
   reach-alone noSlot noEndpoint i p q input =
       reach-runs refused noSlot noEndpoint id i p q input t
       (λ s ws r o e _ w.
       let k = known t m id s o in
+      let base : home id t (withEndpoint t id i (r .endpoint)) ≡ s .base = rw (slot-endpoint t id i (r .endpoint) id, k .same, k .used) in
       record {
         slots = λ other _ _. slot-endpoint t id i (r .endpoint) other;
         endpoints = λ other j b n d. endpoint-elsewhere t id i other j (r .endpoint) (k .is .0) b n e d;
-        within = λ a h.
-            let base : home id t (withEndpoint t id i (r .endpoint)) ≡ s .base = rw (slot-endpoint t id i (r .endpoint) id, k .same, k .used) in
-            subst (λ (x : ℕ). Within x 1024 a) (sym base) (omega (arith, w a h, k .low));
+        within = λ a h. subst (λ (x : ℕ). Within x 1024 a) (sym base) (omega (arith, w a h, k .low));
+        kept = λ _. base ∙ ap (λ (r : Slot). r .base) (sym (k .same));
       })
 
 -- ---- the law

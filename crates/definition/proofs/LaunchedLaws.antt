@@ -16,7 +16,7 @@ use Rattle.guest.proofs.ListLaws.{All, In, all-map, those-all, those-in, count-
 use Rattle.guest.proofs.SpliceLaws.{block-length, block-other, block-here}
 use Rattle.guest.proofs.ReadLaws.{applied, applied-length, applied-append}
 use Rattle.guest.proofs.StoreLaws.{block-kept, block-block, Runs, store, touched-append}
-use Rattle.definition.specs.Types.{Endpoint, Default, Slot, Table, Answer}
+use Rattle.definition.specs.Types.{Endpoint, Enabled, Default, Slot, Table, Answer}
 use Rattle.definition.specs.Table.{isDisabled, disabled, endpointOf, slotOf, withEndpoint, wellFormed}
 use Rattle.definition.specs.Walks.{Walk}
 use Rattle.definition.specs.Commands as commands
@@ -26,6 +26,14 @@ use Rattle.definition.proofs.TableLaws.{Sized, IsSlot, sized-endpoint, 
 use Rattle.definition.proofs.MaskLaws.{all-head, all-both, in-cases, in-none, Ascends, ascends-head, bits-ascend, mask-low, bit-of, bit-added, bit-stays, bit-zero}
 use Rattle.definition.proofs.CountLaws.{Dropping, Adding, Starts, fresh-base, kept-base, kept-ended, half, waiting, slot-runs, check-runs, settled-runs, reconfigure-runs, address-runs, prog-runs}
 use Rattle.definition.proofs.EndedLaws.{Known, known, length-low}
+
+-- what is shown of a call that succeeds; a refusal does not
+Success : (Answer → Table → Type 0) → Told → Type 0
+Success R x = x .0 .code ≡ 1 → R (x .0) (x .1)
+
+refused : (R : Answer → Table → Type 0) (t : Table) (c : ℕ) → 2 ≤ c → Success R (told t (refuse c))
+unfolding Success
+refused R t c h e = absurd (omega arith)
 
 -- ---- the word
 
@@ -47,6 +55,7 @@ SlotFirst t id base x = Within base 32 x ⊎ ((slotOf t id .state ≡ Default) �
 -- Address Device by the input context at P took t to u and answered a with success
 pub record Addresses (t : Table) (m : Mem) (id P : ℕ) (a : Answer) (u : Table) : Type 0 where
   pub launched : a .launched ≡ 2
+  pub fresh : slotOf t id .state ≡ Enabled → slotOf u id .base ≡ number (block m (slotOf t id .entry) 8)
   pub holds : (let word = (P ⊕ 32) + 32 + 8 in
       ((x : ℕ) → Within word 8 x → SlotFirst t id (slotOf u id .base) x → ⊥) → endpointOf u id 1 ≡ waiting (block m word 8))
 
@@ -64,62 +73,68 @@ module _ (t : Table) (m : Mem) (id P : ℕ) (z : Sized t) where
   abbrev FirstWord : ℕ
   FirstWord = (P ⊕ 32) + 32 + 8
 
-  First : Told → Type 0
-  First x = x .0 .code ≡ 1 → Addresses t m id P (x .0) (x .1)
-
-  first-refused : (c : ℕ) → 2 ≤ c → First (told t (refuse c))
-  unfolding First
-  first-refused c h e = absurd (omega arith)
+  abbrev First : Answer → Table → Type 0
+  First = Addresses t m id P
 
   module _ (s : Slot) (k : Known t m id s) where
-    first-sized : {ws : List Store} {base : ℕ} {w : Walk} → Starts m id s t ws base w → Sized (w .table)
-    first-sized (fresh-base e) = z
-    first-sized (kept-base e) = z
-    first-sized (kept-ended e) = sized-endpoint t id 1 disabled z
+    -- what is known once Address Device has begun
+    record Begun (ws : List Store) (base : ℕ) (w : Walk) : Type 0 where
+      sized : Sized (w .table)
+      launched : w .launched ≡ 0
+      fresh : slotOf t id .state ≡ Enabled → base ≡ number (block m (slotOf t id .entry) 8)
+      before : (x : ℕ) → Touched ws x → SlotFirst t id base x
 
-    first-none : {ws : List Store} {base : ℕ} {w : Walk} → Starts m id s t ws base w → w .launched ≡ 0
-    first-none (fresh-base e) = refl
-    first-none (kept-base e) = refl
-    first-none (kept-ended e) = refl
+    same-state : slotOf t id .state ≡ s .state
+    same-state = ap (λ (r : Slot). r .state) (k .same)
 
-    -- what is stored before the slot context
-    first-before : {ws : List Store} {base : ℕ} {w : Walk} → Starts m id s t ws base w → base ≤ 2 ^ 30 → (x : ℕ) → Touched ws x → SlotFirst t id base x
+    began : {ws : List Store} {base : ℕ} {w : Walk} → base ≤ 2 ^ 30 → Starts m id s t ws base w → Begun ws base w
     unfolding Touched
-    first-before (fresh-base e) low x h = absurd h
-    first-before (kept-base e) low x h = absurd h
-    first-before (kept-ended e) low x h = ⊎-elim (λ w. inr (ap (λ (r : Slot). r .state) (k .same) ∙ e, omega arith)) (λ q. absurd q) h
+    began low (fresh-base e) = record { sized = z; launched = refl; fresh = λ q. rw (k .same); before = λ x h. absurd h }
+    began low (kept-base e) = record { sized = z; launched = refl; fresh = λ q. cc same-state; before = λ x h. absurd h }
+    began low (kept-ended e) =
+        record {
+          sized = sized-endpoint t id 1 disabled z;
+          launched = refl;
+          fresh = λ q. cc same-state;
+          before = λ x h. ⊎-elim (λ w. inr (same-state ∙ e, omega arith)) (λ q. absurd q) h;
+        }
 
     first-runs : (bsr : Bool) → t .length ≡ length m → wellFormed t ≡ true
-        → Runs (commands.carryOut (length m) P t id s (commands.plan (s .state) bsr)) m (λ ws r. First (told t r))
-    unfolding First applied
+        → Runs (commands.carryOut (length m) P t id s (commands.plan (s .state) bsr)) m (λ ws r. Success First (told t r))
+    unfolding Success applied
     first-runs bsr size f =
-        address-runs id s t first-refused (length m) P bsr
-        (λ ws base nxt w b _ p h e. record {
-          launched = omega (arith, first-none b);
+        address-runs id s t (refused First t) (length m) P bsr
+        (λ ws base nxt w b _ p h e.
+        let low : base ≤ 2 ^ 30 = omega (arith, length-low t f) in
+        let known = began low b in
+        let slot : Slot = record { state = nxt; base = base; entry = s .entry } in
+        let set = slot-here _ id slot (sized-endpoint (w .table) id 1 _ (known .sized)) (k .is) in
+        record {
+          launched = omega (arith, known .launched);
+          fresh = λ q. ap (λ (r : Slot). r .base) set ∙ known .fresh q;
           holds = λ clear.
-              let low : base ≤ 2 ^ 30 = omega (arith, length-low t f) in
-              let slot : Slot = record { state = nxt; base = base; entry = s .entry } in
-              let two : List Store = store base (block (applied m ws) (P ⊕ 32) 32) ∷ store (base + 15) (slotStateByte (contextState nxt) ∷ []) ∷ [] in
+              let byte = slotStateByte (contextState nxt) in
+              let two : List Store = store base (block (applied m ws) (P ⊕ 32) 32) ∷ store (base + 15) (byte ∷ []) ∷ [] in
               let n : Mem = half (applied m ws) (P ⊕ 32) base nxt in
               let same : applied m (ws ++ two) ≡ n = applied-append ws two m in
               let long : length n ≡ length m = sym (ap length same) ∙ applied-length (ws ++ two) m in
               let kept : block n FirstWord 8 ≡ block m FirstWord 8 = rw same at (block-kept m (ws ++ two) FirstWord 8
-              (λ x v q. clear x v (subst (λ (r : Slot). SlotFirst t id (r .base) x)
-              (sym (slot-here _ id slot (sized-endpoint (w .table) id 1 _ (first-sized b)) (k .is)))
-              (⊎-elim (first-before b low x) (λ d. inl (context-stores (applied m ws) (P ⊕ 32) base (base + 15) (slotStateByte (contextState nxt)) x (omega arith) (omega arith) d)) (touched-append ws two x q))))) in
+              (λ x v q. clear x v (subst (λ (r : Slot). SlotFirst t id (r .base) x) (sym set)
+              (⊎-elim (known .before x)
+              (λ d. inl (context-stores (applied m ws) (P ⊕ 32) base (base + 15) byte x (omega arith) (omega arith) d)) (touched-append ws two x q))))) in
               endpoint-slot _ id slot id 1
-              ∙ endpoint-here (w .table) id 1 _ (first-sized b) (k .is) (omega arith)
+              ∙ endpoint-here (w .table) id 1 _ (known .sized) (k .is) (omega arith)
               ∙ ap waiting (launch-word n (base ⊕ 32 * 1) ((P ⊕ 32) + 32) (omega arith) (omega arith) ∙ kept);
         })
 
 -- endpoint 1 after Address Device
 pub addressed : (id P : ℕ) (bsr : Bool) (t : Table) (m : Mem) → Sized t
     → (let r = run (prog (addressDevice id P bsr) (length m) t) m 0 .value in r .0 .code ≡ 1 → Addresses t m id P (r .0) (r .1))
-unfolding meaning commands.addressDevice First
+unfolding meaning commands.addressDevice Success
 addressed id P bsr t m z =
-    prog-runs (addressDevice id P bsr) t m (λ ws x. First t m id P z x)
-    (slot-runs (first-refused t m id P z) 11 (omega arith) t id _
-    (λ s o. check-runs (first-refused t m id P z) _ (length m) P _ (first-runs t m id P z s (known t m id s o) bsr (o .size) (o .formed))))
+    prog-runs (addressDevice id P bsr) t m (λ ws x. Success (First t m id P z) x)
+    (slot-runs (refused (First t m id P z) t) 11 (omega arith) t id _
+    (λ s o. check-runs (refused (First t m id P z) t) _ (length m) P _ (first-runs t m id P z s (known t m id s o) bsr (o .size) (o .formed))))
 
 -- ---- Configure Endpoint
 
@@ -164,12 +179,8 @@ module _ (t : Table) (m : Mem) (id P : ℕ) (z : Sized t) where
   Holds : ℕ → Table → Type 0
   Holds i u = ((x : ℕ) → Within (WordAt i) 8 x → Before t m id P i x → ⊥) → endpointOf u id i ≡ waiting (block m (WordAt i) 8)
 
-  Later : Told → Type 0
-  Later x = x .0 .code ≡ 1 → Configures t m id P (x .0) (x .1)
-
-  later-refused : (c : ℕ) → 2 ≤ c → Later (told t (refuse c))
-  unfolding Later
-  later-refused c h e = absurd (omega arith)
+  abbrev Later : Answer → Table → Type 0
+  Later = Configures t m id P
 
   -- on the way down the drops
   record Dropping-on (is : List ℕ) (ws : List Store) (w : Walk) : Type 0 where
@@ -275,10 +286,10 @@ module _ (t : Table) (m : Mem) (id P : ℕ) (z : Sized t) where
   finished : {ws : List Store} {w : Walk} → Adding-on [] ws w → (j : ℕ) → Added m P j → (bit (w .launched) j ≡ true) × Holds j (w .table)
   finished d j f = ⊎-elim (λ q. absurd (in-none q)) (λ h. h) (d .done j f)
 
-  later-runs : IsSlot id → (accepts : ℕ → Bool) → Runs (commands.reconfigure accepts id P (slotOf t id) (length m) t) m (λ ws r. Later (told t r))
-  unfolding Later Holds Touched
+  later-runs : IsSlot id → (accepts : ℕ → Bool) → Runs (commands.reconfigure accepts id P (slotOf t id) (length m) t) m (λ ws r. Success Later (told t r))
+  unfolding Success Holds Touched
   later-runs n accepts =
-      reconfigure-runs id (slotOf t id) t later-refused accepts (length m) P drops-on (adds-on n)
+      reconfigure-runs id (slotOf t id) t (refused Later t) accepts (length m) P drops-on (adds-on n)
       (λ a ws w d. record {
         from = 2;
         ascends = bits-ascend 30 2 _;
@@ -299,10 +310,12 @@ module _ (t : Table) (m : Mem) (id P : ℕ) (z : Sized t) where
 -- the endpoints that Configure Endpoint with DC=0 launches
 pub configured : (id P : ℕ) (t : Table) (m : Mem) → Sized t
     → (let r = run (prog (configureEndpoint id P false) (length m) t) m 0 .value in r .0 .code ≡ 1 → Configures t m id P (r .0) (r .1))
-unfolding meaning commands.configureEndpoint Later
+unfolding meaning commands.configureEndpoint Success
 configured id P t m z =
-    prog-runs (configureEndpoint id P false) t m (λ ws x. Later t m id P z x)
-    (slot-runs (later-refused t m id P z) 11 (omega arith) t id _
-    (λ s o. settled-runs (later-refused t m id P z) (s .state) (λ _.
+    prog-runs (configureEndpoint id P false) t m (λ ws x. Success (Later t m id P z) x)
+    (slot-runs (refused (Later t m id P z) t) 11 (omega arith) t id _
+    (λ s o. settled-runs (refused (Later t m id P z) t) (s .state)
+    (λ _.
     let k = known t m id s o in
-    subst (λ (r : Slot). Runs (commands.reconfigure usbTypes id P r (length m) t) m (λ ws x. Later t m id P z (told t x))) (k .same) (later-runs t m id P z (k .is) usbTypes))))
+    subst (λ (r : Slot). Runs (commands.reconfigure usbTypes id P r (length m) t) m (λ ws x. Success (Later t m id P z) (told t x))) (k .same)
+    (later-runs t m id P z (k .is) usbTypes))))
