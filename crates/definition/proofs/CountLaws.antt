@@ -1,20 +1,21 @@
 -- What each part of a call stores and gives: a rule for each, over whatever is to be shown.
 -- Assumes nothing.
-use mathlib.Core.Path.{_≡_, refl}
-use mathlib.Core.Logic.{⊎-elim}
+use mathlib.Core.Path.{_∙_, _≡_, refl}
+use mathlib.Core.Logic.{inr, ⊎-elim}
 use mathlib.Core.Bool.{Bool, true, false, not, _&&_}
 use mathlib.Core.List.{List, [], _∷_, _++_, append-nil, append-assoc}
-use Prim.Native.Nat.{ℕ, _+_, _*_, _^_, _≤_}
+use Prim.Native.Nat.{ℕ, _+_, _*_, _^_, _≤_, _<_}
 use native.Mathlib.Nat.{add-zero}
 use native.Mathlib.Omega.{arith}
 use borrow.Author.Tests.{ltb-true, eqb-true, leb-true}
 use lib.Dec.{leb, eqb}
-use lib.ListN.{length}
+use lib.ListN.{length, drop, length-take}
 use Rattle.guest.specs.Bytes.{count, setBits, slotStateByte, number, bytes, _⊕_, pointerOf, cycleOf}
 use Rattle.guest.specs.Prog.{Mem, Prog, done, run, block, splice, Within, Store, stores, Touched, each, Result, ok, refuse, andThen, passed}
 use Rattle.guest.proofs.ListLaws.{All, and-left, and-right}
 use Rattle.guest.proofs.ReadLaws.{applied, total}
-use Rattle.guest.proofs.StoreLaws.{Runs, runs-run, store, runs-done, runs-get, runs-put, runs-choose, runs-need, runs-bind, runs-last, Quietly, runs-then, runs-every, runs-map, runs-each, each-from}
+use Rattle.guest.proofs.SpliceLaws.{block-length, block-other, block-here}
+use Rattle.guest.proofs.StoreLaws.{block-block, Runs, runs-run, store, runs-done, runs-get, runs-put, runs-choose, runs-need, runs-bind, runs-last, Quietly, runs-then, runs-every, runs-map, runs-each, each-from}
 use Rattle.definition.specs.Types.{Endpoint, Waiting, Input, SlotState, Free, Enabled, Default, Addressed, Configured, Slot, Table, Lookup, Used, Nothing}
 use Rattle.definition.specs.Table.{slotNumber, isDisabled, disabled, free, endpointOf, slotOf, withEndpoint, withSlot, lookup, wellFormed}
 use Rattle.definition.specs.Steps.{Stepped, entry, stepBy, step, launchAt, terminateAt}
@@ -50,6 +51,7 @@ terminate-runs {R = R} id base i w f g =
 abbrev pub waiting : List ℕ → Endpoint
 waiting word = record { state = Waiting; cycle = cycleOf (number word); pointer = pointerOf (number word) }
 
+-- a context copied from c, and its endpoint launched
 pub copy-runs : {m : Mem} {R : List Store → Walk → Type 0} (id base c i : ℕ) (w : Walk)
     → (let at = base ⊕ 32 * i in
     let n = splice m at (block m c 32) in
@@ -57,6 +59,21 @@ pub copy-runs : {m : Mem} {R : List Store → Walk → Type 0} (id base c i : �
     → Runs (copyLaunch id base c i w) m R
 unfolding copyLaunch launch launchAt
 copy-runs id base c i w h = runs-get (runs-put (runs-get (runs-last _ (runs-put (runs-get (runs-done h))))))
+
+-- a launch takes the dequeue word of the context that was copied from c
+pub launch-word : (n : Mem) (at c : ℕ) → at + 32 ≤ length n → c + 32 ≤ length n
+    → block (splice (splice n at (block n c 32)) at (1 ∷ [])) (at + 8) 8 ≡ block n (c + 8) 8
+launch-word n at c h l =
+    let long : length (block n c 32) ≡ 32 = block-length n c 32 l in
+    block-other (splice n at (block n c 32)) (at + 8) 8 at (1 ∷ []) (inr (omega arith))
+    ∙ block-here n at (block n c 32) 8 8 (omega arith) (omega arith)
+    ∙ block-block n c 32 8 8 l (omega arith)
+
+-- a context stored, and then a byte of it
+pub context-stores : (n : Mem) (c base at b x : ℕ) → base ≤ at → at < base + 32 → Touched (store base (block n c 32) ∷ store at (b ∷ []) ∷ []) x → Within base 32 x
+unfolding Touched
+context-stores n c base at b x l g h =
+    ⊎-elim (λ w. omega (arith, length-take 32 (drop c n))) (⊎-elim (λ w. omega arith) (λ q. absurd q)) h
 
 -- a step stores at most nine bytes, all in the context
 pub step-runs : {m : Mem} {R : List Store → Result Stepped → Type 0} (e : Endpoint) (input : Input) (at : ℕ) → ((c : ℕ) → 2 ≤ c → R [] (refuse c))
@@ -76,6 +93,7 @@ step-runs {m} {R} e input at r f =
 -- ---- the checks before a command
 
 module _ {A : Type 0} {m : Mem} {R : List Store → Result A → Type 0} (refused : (c : ℕ) → 2 ≤ c → R [] (refuse c)) where
+  -- past 198, past 194, past 11
   pub formed-runs : (t : Table) {p : Prog (Result A)} → (wellFormed t ≡ true → Runs p m R) → Runs (formed t p) m R
   unfolding formed
   formed-runs t f = runs-choose f (λ _. runs-done (refused 198 (omega arith)))
@@ -105,6 +123,7 @@ module _ {A : Type 0} {m : Mem} {R : List Store → Result A → Type 0} (refuse
       (λ c h. (refl, h)) (λ _. runs-done (refl, refl)))))
       refused (λ adds e. rw e g)
 
+  -- "Enabled or Default gives 19."
   pub settled-runs : (s : SlotState) {p : Prog (Result A)} → (Settled s → Runs p m R) → Runs (settled s p) m R
   unfolding settled
   settled-runs Free f = runs-done (refused 19 (omega arith))
@@ -130,7 +149,9 @@ pub record Dropping (id base : ℕ) (I : Held) : Type 0 where
   pub go : (i : ℕ) (is : List ℕ) (ws : List Store) (w : Walk) → I (i ∷ is) ws w → isDisabled (endpointOf (w .table) id i) ≡ false
       → I is (ws ++ store (base ⊕ 32 * i) (0 ∷ []) ∷ []) (gone id i w)
 
-pub terminate-all-runs : {m : Mem} (id base : ℕ) (is : List ℕ) (w : Walk) {I : Held} → Dropping id base I → I is [] w → Runs (terminateAll id base is w) m (I [])
+-- a walk that terminates
+pub terminate-all-runs : {m : Mem} (id base : ℕ) (is : List ℕ) (w : Walk) {I : Held} → Dropping id base I → I is [] w
+    → Runs (terminateAll id base is w) m (I [])
 unfolding terminateAll
 terminate-all-runs {m} id base is w {I} e h =
     runs-each (terminate id base) m I
@@ -145,6 +166,7 @@ pub record Adding (m : Mem) (id P base : ℕ) (I : Held) : Type 0 where
       I is (ws ++ store at context ∷ store at (1 ∷ []) ∷ [])
       (begun id i (number (block n (base + 6) 1)) (waiting (block (splice n at (1 ∷ [])) (at + 8) 8)) w))
 
+-- a walk that adds
 pub add-all-runs : {m : Mem} {id P base : ℕ} (is : List ℕ) (ws : List Store) (w : Walk) {I : Held} → Adding m id P base I → I is ws w
     → Runs (each is (add id P base) w) (applied m ws) (λ vs v. I [] (ws ++ vs) v)
 unfolding add
@@ -182,15 +204,18 @@ copied m c id base next w =
     begun id 1 (number (block n (base + 6) 1)) (waiting (block (splice n at (1 ∷ [])) (at + 8) 8)) w
 
 module _ {m : Mem} {R : List Store → Result Told → Type 0} (id : ℕ) (s : Slot) (t : Table) where
+  -- "terminate endpoints 2..31, to .."
   pub deconfigure-runs : (next : SlotState) {I : Held} → Dropping id (s .base) I → I (count 30 2) [] (begin t)
       → ((ws : List Store) (w : Walk) → I [] ws w
       → R (ws ++ store (s .base + 15) (slotStateByte (contextState next) ∷ []) ∷ []) (ok (settle id next (s .base) (s .entry) w)))
       → Runs (deconfigure id s next t) m R
   unfolding deconfigure finish
-  deconfigure-runs next {I} e h g = runs-bind (I []) (terminate-all-runs id (s .base) (count 30 2) (begin t) e h) (λ ws w q. runs-put (runs-done (g ws w q)))
+  deconfigure-runs next {I} e h g =
+      runs-bind (I []) (terminate-all-runs id (s .base) (count 30 2) (begin t) e h) (λ ws w q. runs-put (runs-done (g ws w q)))
 
   -- the walk of the drops holds J, that of the adds K
-  pub reconfigure-runs : ((c : ℕ) → 2 ≤ c → R [] (refuse c)) → (accepts : ℕ → Bool) (len P : ℕ) {J K : Held} → Dropping id (s .base) J → Adding m id P (s .base) K
+  pub reconfigure-runs : ((c : ℕ) → 2 ≤ c → R [] (refuse c)) → (accepts : ℕ → Bool) (len P : ℕ) {J K : Held}
+      → Dropping id (s .base) J → Adding m id P (s .base) K
       → (let adds = setBits 30 2 (number (block m (P ⊕ 4) 4)) in
       All (λ i. ((P ⊕ 32 * (i + 1)) + 32 ≤ len) × ((s .base ⊕ 32 * i) + 32 ≤ len)) adds → (ws : List Store) (w : Walk) → J [] ws w → K adds ws w)
       → J (setBits 30 2 (number (block m P 4))) [] (begin t)
@@ -204,7 +229,8 @@ module _ {m : Mem} {R : List Store → Result Told → Type 0} (id : ℕ) (s : S
       (λ _. runs-get (runs-every _ _ (λ i. contexts-runs len P (s .base) i) r
       (λ a. runs-bind (J []) (terminate-all-runs id (s .base) _ (begin t) e h)
       (λ ws w q. runs-bind (λ vs v. K [] (ws ++ vs) v) (add-all-runs _ ws w f (g a ws w q))
-      (λ vs v q. runs-put (runs-done (rw (← append-assoc ws vs (store (s .base + 15) (slotStateByte (contextState Configured) ∷ []) ∷ [])) (k (ws ++ vs) v q)))))))))
+      (λ vs v q. runs-put (runs-done
+      (rw (← append-assoc ws vs (store (s .base + 15) (slotStateByte (contextState Configured) ∷ []) ∷ [])) (k (ws ++ vs) v q)))))))))
 
   -- "Address Device": the copies follow the stores ws
   pub address-runs : ((c : ℕ) → 2 ≤ c → R [] (refuse c)) → (len P : ℕ) (bsr : Bool)
@@ -241,7 +267,8 @@ module _ {m : Mem} {R : List Store → Result Told → Type 0} (id : ℕ) (s : S
       by Configured bsr e = runs-done (r 19 (omega arith))
 
 -- "terminates all endpoints ascending and frees the slot"
-pub freeing-runs : {m : Mem} {R : List Store → Walk → Type 0} (id : ℕ) (t : Table) {I : Held} → Dropping id (slotOf t id .base) I → I (count 31 1) [] (begin t)
+pub freeing-runs : {m : Mem} {R : List Store → Walk → Type 0} (id : ℕ) (t : Table) {I : Held} → Dropping id (slotOf t id .base) I
+    → I (count 31 1) [] (begin t)
     → ((ws : List Store) (w : Walk) → I [] ws w
     → R ws (record { table = withSlot (w .table) id free; launched = w .launched; terminated = w .terminated; port = w .port }))
     → Runs (freeing id t) m R
@@ -249,9 +276,10 @@ unfolding freeing
 freeing-runs id t e h g = runs-last _ (runs-map g (terminate-all-runs id (slotOf t id .base) (count 31 1) (begin t) e h))
 
 -- a call that reaches one endpoint
-pub reach-runs : {m : Mem} {R : List Store → Result Told → Type 0} → ((c : ℕ) → 2 ≤ c → R [] (refuse c)) → (noSlot noEndpoint id i : ℕ) → 2 ≤ noSlot → 2 ≤ noEndpoint → (input : Input) (t : Table)
-    → ((s : Slot) (ws : List Store) (r : Stepped) → Opened t m id s → IsEndpoint i → total ws ≤ 9 → ((a : ℕ) → Touched ws a → Within (s .base ⊕ 32 * i) 32 a)
-    → R ws (ok (stepped r, withEndpoint t id i (r .endpoint))))
+pub reach-runs : {m : Mem} {R : List Store → Result Told → Type 0} → ((c : ℕ) → 2 ≤ c → R [] (refuse c)) → (noSlot noEndpoint id i : ℕ) → 2 ≤ noSlot → 2 ≤ noEndpoint
+    → (input : Input) (t : Table)
+    → ((s : Slot) (ws : List Store) (r : Stepped) → Opened t m id s → IsEndpoint i → total ws ≤ 9
+    → ((a : ℕ) → Touched ws a → Within (s .base ⊕ 32 * i) 32 a) → R ws (ok (stepped r, withEndpoint t id i (r .endpoint))))
     → Runs (endpointCall noSlot noEndpoint id i input (length m) t) m R
 unfolding endpointCall onEndpoint andThen passed
 reach-runs {m} {R} r noSlot noEndpoint id i p q input t g =

@@ -86,11 +86,13 @@ used-inside t id f = by (decLt (id - 1) (length (t .slots)))
         let z : isFree free ≡ false = subst (λ (r : Slot). isFree r ≡ false) e f in
         let y : _≡_ {A = ℕ} 0 1 = cc in absurd (omega arith)
 
+-- memory is at most 2^30 bytes long
 pub length-low : (t : Table) → wellFormed t ≡ true → t .length ≤ 2 ^ 30
 unfolding wellFormed
 length-low t f =
     leb-true (t .length) 1073741824 (and-right (leb (t .limit) 16) (leb (t .length) 1073741824) (and-left _ (all (count 16 1) (slotOk t)) f))
 
+-- each slot of a well-formed table is
 slot-ok : (t : Table) (id : ℕ) → wellFormed t ≡ true → IsSlot id → slotOkIn (slotOf t id .state) (slotOf t id) t id ≡ true
 unfolding wellFormed slotOk
 slot-ok t id f n =
@@ -118,7 +120,7 @@ base-low t id f n = by (slotOf t id .state) (slot-ok t id f n)
     by Addressed h = used h
     by Configured h = used h
 
--- past 198, 194 and 11
+-- the slot s of a call that is past 198, 194 and 11
 pub record Known (t : Table) (m : Mem) (id : ℕ) (s : Slot) : Type 0 where
   pub same : slotOf t id ≡ s
   pub is : IsSlot id
@@ -139,11 +141,14 @@ known t m id s o =
 
 -- ---- an Enabled slot
 
-enabled-none : (t : Table) (id i : ℕ) → wellFormed t ≡ true → IsSlot id → slotOf t id .state ≡ Enabled → IsEndpoint i → isDisabled (endpointOf t id i) ≡ true
+-- it has no endpoint
+enabled-none : (t : Table) (id i : ℕ) → wellFormed t ≡ true → IsSlot id → slotOf t id .state ≡ Enabled → IsEndpoint i
+    → isDisabled (endpointOf t id i) ≡ true
 unfolding noEndpoint isZero
 enabled-none t id i f n e h =
     let ok : slotOkIn Enabled (slotOf t id) t id ≡ true = subst (λ (st : SlotState). slotOkIn st (slotOf t id) t id ≡ true) e (slot-ok t id f n) in
-    let zero : isZero (endpointOf t id i) ≡ true = all-at (λ j. isZero (endpointOf t id j)) 31 1 (and-right (eqb (slotOf t id .base) 0) (noEndpoint t id) ok) i (h .0) (omega arith) in
+    let none : noEndpoint t id ≡ true = and-right (eqb (slotOf t id .base) 0) (noEndpoint t id) ok in
+    let zero : isZero (endpointOf t id i) ≡ true = all-at (λ j. isZero (endpointOf t id j)) 31 1 none i (h .0) (omega arith) in
     and-left (isDisabled (endpointOf t id i)) (not (endpointOf t id i .cycle)) (and-left _ (eqb (endpointOf t id i .pointer) 0) zero)
 
 -- a walk that ends nothing

@@ -60,6 +60,7 @@ pub record Isolated (id : ℕ) (t u : Table) (ws : List Store) : Type 0 where
 
 -- ---- stores within a device context
 
+-- every store lies within the 1024 bytes from base
 record Own (base : ℕ) (ws : List Store) : Type 0 where
   at : (a : ℕ) → Touched ws a → Within base 1024 a
 
@@ -88,7 +89,8 @@ aside-begin t id base a = record { left = a; slots = refl; endpoints = λ other 
 
 module _ (t : Table) (id base : ℕ) (some : 1 ≤ id) (low : base ≤ 2 ^ 30) where
   -- endpoint i becomes e, and what is stored lies in the context
-  aside-one : (i : ℕ) (is : List ℕ) (ws vs : List Store) (w v : Walk) (e : Endpoint) → v .table ≡ withEndpoint (w .table) id i e → (IsEndpoint i → Own base vs)
+  aside-one : (i : ℕ) (is : List ℕ) (ws vs : List Store) (w v : Walk) (e : Endpoint) → v .table ≡ withEndpoint (w .table) id i e
+      → (IsEndpoint i → Own base vs)
       → Aside t id base (i ∷ is) ws w → Aside t id base is (ws ++ vs) v
   unfolding withEndpoint
   aside-one i is ws vs w v e same o a =
@@ -247,6 +249,7 @@ module _ (t : Table) (m : Mem) (id : ℕ) where
 
 -- ---- the law
 
+-- every such call's meaning
 alone : (c : Call) (t : Table) (m : Mem) → 1 ≤ slotIn c → Runs (meaning c (length m) t) m (Alone t m (slotIn c))
 unfolding meaning commands.disableSlot commands.addressDevice commands.configureEndpoint commands.evaluateContext commands.resetDevice
 alone (setLimit n) t m h = absurd (omega arith)
@@ -261,7 +264,8 @@ alone (configureEndpoint id P true) t m h =
     (λ s o. settled-runs (refused t m id) (s .state) (λ _. deconfigure-alone t m id s (known t m id s o) Addressed refl))
 alone (configureEndpoint id P false) t m h =
     slot-runs (refused t m id) 11 (omega arith) t id _ (λ s o. settled-runs (refused t m id) (s .state) (λ _. reconfigure-alone t m id s (known t m id s o) _ P))
-alone (evaluateContext id P) t m h = slot-runs (refused t m id) 11 (omega arith) t id _ (λ s o. check-runs (refused t m id) _ (length m) P _ (runs-done (same-table t m id 1)))
+alone (evaluateContext id P) t m h =
+    slot-runs (refused t m id) 11 (omega arith) t id _ (λ s o. check-runs (refused t m id) _ (length m) P _ (runs-done (same-table t m id 1)))
 alone (resetDevice id) t m h =
     slot-runs (refused t m id) 11 (omega arith) t id _
     (λ s o. settled-runs (refused t m id) (s .state) (λ _. deconfigure-alone t m id s (known t m id s o) Default refl))

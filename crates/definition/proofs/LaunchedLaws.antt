@@ -24,7 +24,7 @@ use Rattle.definition.specs.Commands.{Told, usbTypes, contextState}
 use Rattle.definition.specs.Calls.{addressDevice, configureEndpoint, meaning, told, prog}
 use Rattle.definition.proofs.TableLaws.{Sized, IsSlot, sized-endpoint, endpoint-here, endpoint-other, endpoint-slot, slot-here}
 use Rattle.definition.proofs.MaskLaws.{all-head, all-both, in-cases, in-none, Ascends, ascends-head, bits-ascend, mask-low, bit-of, bit-added, bit-stays, bit-zero}
-use Rattle.definition.proofs.CountLaws.{Dropping, Adding, Starts, fresh-base, kept-base, kept-ended, half, waiting, slot-runs, check-runs, settled-runs, reconfigure-runs, address-runs, prog-runs}
+use Rattle.definition.proofs.CountLaws.{launch-word, context-stores, Dropping, Adding, Starts, fresh-base, kept-base, kept-ended, half, waiting, slot-runs, check-runs, settled-runs, reconfigure-runs, address-runs, prog-runs}
 use Rattle.definition.proofs.EndedLaws.{Known, known, length-low}
 
 -- what is shown of a call that succeeds; a refusal does not
@@ -34,17 +34,6 @@ Success R x = x .0 .code ≡ 1 → R (x .0) (x .1)
 refused : (R : Answer → Table → Type 0) (t : Table) (c : ℕ) → 2 ≤ c → Success R (told t (refuse c))
 unfolding Success
 refused R t c h e = absurd (omega arith)
-
--- ---- the word
-
--- a launch takes the dequeue word of the context that was copied from c
-launch-word : (n : Mem) (at c : ℕ) → at + 32 ≤ length n → c + 32 ≤ length n
-    → block (splice (splice n at (block n c 32)) at (1 ∷ [])) (at + 8) 8 ≡ block n (c + 8) 8
-launch-word n at c h l =
-    let long : length (block n c 32) ≡ 32 = block-length n c 32 l in
-    block-other (splice n at (block n c 32)) (at + 8) 8 at (1 ∷ []) (inr (omega arith))
-    ∙ block-here n at (block n c 32) 8 8 (omega arith) (omega arith)
-    ∙ block-block n c 32 8 8 l (omega arith)
 
 -- ---- Address Device
 
@@ -61,13 +50,8 @@ pub record Addresses (t : Table) (m : Mem) (id P : ℕ) (a : Answer) (u : Table)
 
 -- a word outside the device context is not stored to
 pub slot-apart : (t : Table) (id base word : ℕ) → (word + 8 ≤ base) ⊎ (base + 1024 ≤ word) → (x : ℕ) → Within word 8 x → SlotFirst t id base x → ⊥
-slot-apart t id base word apart x w f = ⊎-elim (λ l. ⊎-elim (λ v. omega arith) (λ v. omega arith) f) (λ l. ⊎-elim (λ v. omega arith) (λ v. omega arith) f) apart
-
--- a context stored, and then a byte of it
-context-stores : (n : Mem) (c base at b x : ℕ) → base ≤ at → at < base + 32 → Touched (store base (block n c 32) ∷ store at (b ∷ []) ∷ []) x → Within base 32 x
-unfolding Touched
-context-stores n c base at b x l g h =
-    ⊎-elim (λ w. omega (arith, length-take 32 (drop c n))) (⊎-elim (λ w. omega arith) (λ q. absurd q)) h
+slot-apart t id base word apart x w (inl v) = ⊎-elim (λ l. omega arith) (λ l. omega arith) apart
+slot-apart t id base word apart x w (inr v) = ⊎-elim (λ l. omega arith) (λ l. omega arith) apart
 
 module _ (t : Table) (m : Mem) (id P : ℕ) (z : Sized t) where
   abbrev FirstWord : ℕ
@@ -164,10 +148,12 @@ pub before-apart : (t : Table) (m : Mem) (id P i word : ℕ) → slotOf t id .ba
 before-apart t m id P i word low apart x w (byDrop j d e q) = ⊎-elim (λ l. omega arith) (λ l. omega arith) apart
 before-apart t m id P i word low apart x w (byAdd j a l v) = ⊎-elim (λ l. omega arith) (λ l. omega arith) apart
 
+-- what is stored before i is stored before what comes after i
 before-up : {t : Table} {m : Mem} {id P i x : ℕ} (k : ℕ) → i ≤ k → Before t m id P i x → Before t m id P k x
 before-up k h (byDrop j d e q) = byDrop j d e q
 before-up k h (byAdd j a l w) = byAdd j a (omega arith) w
 
+-- the endpoints that a flag word names
 flags : (x : ℕ) → All (λ j. (2 ≤ j) × (j ≤ 31) × (bit x j ≡ true)) (setBits 30 2 x)
 flags x = all-map (λ j h. (h .0 .0, h .0 .1, h .1)) (those-all (λ j. (2 ≤ j) × (j ≤ 31)) (bit x) (count 30 2) (count-all _ 30 2 (λ j a b. (a, omega arith))))
 
@@ -276,13 +262,15 @@ module _ (t : Table) (m : Mem) (id P : ℕ) (z : Sized t) where
           left = a .1;
           sized = sized-endpoint (w .table) id i _ (d .sized);
           stored = λ x q. ⊎-elim (λ v. before-up (i + 1) (omega arith) (d .stored x v))
-              (λ v. byAdd i (a .0 .0) (omega arith) (context-stores (applied m ws) (P ⊕ 32 * (i + 1)) _ _ 1 x (omega arith) (omega arith) v)) (touched-append ws _ x q);
+              (λ v. byAdd i (a .0 .0) (omega arith) (context-stores (applied m ws) (P ⊕ 32 * (i + 1)) _ _ 1 x (omega arith) (omega arith) v))
+              (touched-append ws _ x q);
           low = mask-low i (w .launched) (low-here n i is ws w d);
           only = λ j e. ⊎-elim (λ q. subst (Added m P) (sym q) (a .0 .0)) (d .only j) (bit-of i (w .launched) j (low-here n i is ws w d) e);
           done = done-next n i is ws w d;
         };
       }
 
+  -- no endpoint is left to add
   finished : {ws : List Store} {w : Walk} → Adding-on [] ws w → (j : ℕ) → Added m P j → (bit (w .launched) j ≡ true) × Holds j (w .table)
   finished d j f = ⊎-elim (λ q. absurd (in-none q)) (λ h. h) (d .done j f)
 

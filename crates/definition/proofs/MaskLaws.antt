@@ -100,7 +100,8 @@ bit-some i x e = omega (arith, pow-pos i)
 below-same : (i x j : ℕ) → j < i → (x + 2 ^ i) / 2 ^ j % 2 ≡ x / 2 ^ j % 2
 below-same i x j h =
     let k : i ≡ j + suc (i - suc j) = omega arith in
-    let e : 2 ^ i ≡ 2 ^ j * (2 ^ (i - suc j) * 2) = ap (λ (n : ℕ). 2 ^ n) k ∙ pow-add 2 j (suc (i - suc j)) ∙ ap (λ (n : ℕ). 2 ^ j * n) (pow-suc 2 (i - suc j)) in
+    let e : 2 ^ i ≡ 2 ^ j * (2 ^ (i - suc j) * 2) =
+    ap (λ (n : ℕ). 2 ^ n) k ∙ pow-add 2 j (suc (i - suc j)) ∙ ap (λ (n : ℕ). 2 ^ j * n) (pow-suc 2 (i - suc j)) in
     let q : (x + 2 ^ i) / 2 ^ j ≡ x / 2 ^ j + 2 ^ (i - suc j) * 2 = rw e (add-mul-div-left x (2 ^ (i - suc j) * 2) (pow-pos j)) in
     rw q (omega arith)
 

@@ -149,6 +149,7 @@ joins n m id P base =
           };
     }
 
+-- a walk at its beginning
 drops-begin : (n : ℕ) {is : List ℕ} (t : Table) → Ascends 32 1 is → length is ≤ n → Drops n is [] (begin t)
 unfolding total
 drops-begin n t a h =
@@ -159,12 +160,15 @@ drops-end : (n : ℕ) (ws : List Store) (w : Walk) → Drops n [] ws w → Going
 drops-end n ws w d =
     (record { ended = mask-up (d .from) 32 (w .terminated) (ascends-below (d .left)) (d .going .ended); begun = d .going .begun; port = d .going .port }, omega arith)
 
+-- launched endpoints lie below 32
 going-end : (l : ℕ) (w : Walk) → l ≤ 32 → Going 32 l w → Going 32 32 w
 going-end l w h g = record { ended = g .ended; begun = mask-up l 32 (w .launched) h (g .begun); port = g .port }
 
+-- at most thirty flags
 bits-few : (x : ℕ) → length (setBits 30 2 x) ≤ 30
 bits-few x = omega (arith, ascends-length (bits-ascend 30 2 x))
 
+-- one byte more
 one-more : (ws : List Store) (a b : ℕ) → total (ws ++ store a (b ∷ []) ∷ []) ≡ total ws + 1
 unfolding total
 one-more ws a b = total-append ws (store a (b ∷ []) ∷ [])
@@ -189,10 +193,14 @@ module _ (c : Call) (t : Table) where
 
   deconfigure-fits : {m : Mem} (id : ℕ) (s : Slot) (nxt : SlotState) → 31 ≤ mostStored c → Runs (commands.deconfigure id s nxt t) m Fits
   deconfigure-fits id s nxt h =
-      deconfigure-runs id s t nxt (drops 30 id (s .base)) (drops-begin 30 t (ascends-from 1 (omega arith) (count-ascends 30 2)) (omega (arith, count-length 30 2)))
-      (λ ws w d. let e = drops-end 30 ws w d in shape-walked c _ w (omega (arith, one-more ws (s .base + 15) (slotStateByte (contextState nxt)))) (going-end 1 w (omega arith) (e .0)))
+      deconfigure-runs id s t nxt (drops 30 id (s .base))
+      (drops-begin 30 t (ascends-from 1 (omega arith) (count-ascends 30 2)) (omega (arith, count-length 30 2)))
+      (λ ws w d.
+      let e = drops-end 30 ws w d in
+      shape-walked c _ w (omega (arith, one-more ws (s .base + 15) (slotStateByte (contextState nxt)))) (going-end 1 w (omega arith) (e .0)))
 
-  reconfigure-fits : {m : Mem} (accepts : ℕ → Bool) (id P : ℕ) (s : Slot) (len : ℕ) → 1021 ≤ mostStored c → Runs (commands.reconfigure accepts id P s len t) m Fits
+  reconfigure-fits : {m : Mem} (accepts : ℕ → Bool) (id P : ℕ) (s : Slot) (len : ℕ) → 1021 ≤ mostStored c
+      → Runs (commands.reconfigure accepts id P s len t) m Fits
   reconfigure-fits {m} accepts id P s len h =
       reconfigure-runs id s t refused accepts len P (drops 30 id (s .base)) (joins 1020 m id P (s .base))
       (λ _ ws w d.
@@ -208,17 +216,22 @@ module _ (c : Call) (t : Table) where
       (λ ws w d. shape-walked c _ w (omega (arith, one-more ws (s .base + 15) (slotStateByte (contextState Configured))))
       (going-end (d .from) w (ascends-below (d .left)) (d .going)))
 
-  address-fits : {m : Mem} (len P : ℕ) (bsr : Bool) (id : ℕ) (s : Slot) → 67 ≤ mostStored c → Runs (commands.carryOut len P t id s (commands.plan (s .state) bsr)) m Fits
+  address-fits : {m : Mem} (len P : ℕ) (bsr : Bool) (id : ℕ) (s : Slot) → 67 ≤ mostStored c
+      → Runs (commands.carryOut len P t id s (commands.plan (s .state) bsr)) m Fits
   unfolding total
   address-fits {m} len P bsr id s h =
-      address-runs id s t refused len P bsr (λ ws base nxt w b _ _ _. let e = started b in shape-walked c _ (copied (applied m ws) (P ⊕ 32) id base nxt w) (copies-few ws base nxt (e .1) h)
+      address-runs id s t refused len P bsr
+      (λ ws base nxt w b _ _ _.
+      let e = started b in
+      shape-walked c _ (copied (applied m ws) (P ⊕ 32) id base nxt w) (copies-few ws base nxt (e .1) h)
       (record {
         ended = mask-up 2 32 (w .terminated) (omega arith) (e .0 .ended);
         begun = mask-up 2 32 (w .launched + 2 ^ 1) (omega arith) (mask-bit 1 1 (w .launched) (omega arith) (omega arith) (e .0 .begun));
         port = λ z. absurd (bit-some 1 (w .launched) z);
       }))
     where
-      copies-few : (ws : List Store) (base : ℕ) (nxt : SlotState) → total ws ≤ 1 → 67 ≤ mostStored c → total (ws ++ copies (applied m ws) (P ⊕ 32) base nxt) ≤ mostStored c
+      copies-few : (ws : List Store) (base : ℕ) (nxt : SlotState) → total ws ≤ 1 → 67 ≤ mostStored c
+          → total (ws ++ copies (applied m ws) (P ⊕ 32) base nxt) ≤ mostStored c
       copies-few ws base nxt h q =
           omega (
             arith,
@@ -231,9 +244,12 @@ module _ (c : Call) (t : Table) where
       → Runs (commands.freeing id u) m R
   freeing-fits id u g =
       freeing-runs id u (drops 31 id (slotOf u id .base)) (drops-begin 31 u (count-ascends 31 1) (omega (arith, count-length 31 1)))
-      (λ ws w d. let e = drops-end 31 ws w d in g ws _ (going-end 1 _ (omega arith) (record { ended = e .0 .ended; begun = e .0 .begun; port = e .0 .port })) (e .1))
+      (λ ws w d.
+      let e = drops-end 31 ws w d in
+      g ws _ (going-end 1 _ (omega arith) (record { ended = e .0 .ended; begun = e .0 .begun; port = e .0 .port })) (e .1))
 
-  reach-fits : {m : Mem} (noSlot noEndpoint id i : ℕ) → 2 ≤ noSlot → 2 ≤ noEndpoint → (input : Input) → 9 ≤ mostStored c → Runs (endpointCall noSlot noEndpoint id i input (length m) t) m Fits
+  reach-fits : {m : Mem} (noSlot noEndpoint id i : ℕ) → 2 ≤ noSlot → 2 ≤ noEndpoint → (input : Input) → 9 ≤ mostStored c
+      → Runs (endpointCall noSlot noEndpoint id i input (length m) t) m Fits
   reach-fits noSlot noEndpoint id i p q input h =
       reach-runs refused noSlot noEndpoint id i p q input t (λ s ws r o e n w. shape-stepped c (total ws) r (omega arith))
 
@@ -250,11 +266,18 @@ module _ (c : Call) (t : Table) where
   unfolding total
   enable-fits [] e = runs-done (refused 9 (omega arith))
   enable-fits (id ∷ ids) e =
-      runs-done (record { stored = omega arith; launched = omega arith; terminated = omega arith; slot = λ n. absurd (n e); port = λ _. refl; submit = omega arith; cancel = omega arith })
+      let zero = shape-answer c 0 1 (omega arith) in
+      runs-done (record {
+        stored = zero .stored; launched = zero .launched; terminated = zero .terminated; slot = λ n. absurd (n e); port = λ _. refl;
+        submit = zero .submit; cancel = zero .cancel;
+      })
 
+-- every call's meaning
 fits : (c : Call) (t : Table) (m : Mem) → Runs (meaning c (length m) t) m (Fits c t)
 unfolding meaning commands.setLimit commands.setDcbaap commands.enableSlot commands.disableSlot commands.addressDevice commands.configureEndpoint commands.evaluateContext commands.resetDevice commands.resetAll total
-fits (setLimit n) t m = let c = setLimit n in formed-runs (refused c t) t (λ _. runs-choose (λ _. runs-done (shape-answer c 0 0 (omega arith))) (λ _. runs-done (refused c t 197 (omega arith))))
+fits (setLimit n) t m =
+    let c = setLimit n in
+    formed-runs (refused c t) t (λ _. runs-choose (λ _. runs-done (shape-answer c 0 0 (omega arith))) (λ _. runs-done (refused c t 197 (omega arith))))
 fits (setDcbaap a) t m = let c = setDcbaap a in formed-runs (refused c t) t (λ _. runs-done (shape-answer c 0 0 (omega arith)))
 fits enableSlot t m = formed-runs (refused enableSlot t) t (λ _. enable-fits enableSlot t (those (λ id. isFree (slotOf t id)) (count (t .limit) 1)) refl)
 fits (disableSlot id) t m =
