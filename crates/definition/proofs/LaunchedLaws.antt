@@ -8,14 +8,13 @@ use mathlib.Core.List.{List, [], _∷_, _++_}
 use Prim.Native.Nat.{ℕ, _+_, _*_, _^_, _≤_, _<_}
 use native.Mathlib.Omega.{arith}
 use native.Mathlib.Decide.{ℕ-discrete}
-use lib.ListN.{length, drop, length-take}
+use lib.ListN.{length}
 use lib.Pow.{pow-mono}
 use Rattle.guest.specs.Bytes.{number, _⊕_, count, setBits, bit, slotStateByte}
 use Rattle.guest.specs.Prog.{Mem, block, splice, run, Within, Store, Touched, refuse}
 use Rattle.guest.proofs.ListLaws.{All, In, all-map, those-all, those-in, count-all, count-in}
-use Rattle.guest.proofs.SpliceLaws.{block-length, block-other, block-here}
 use Rattle.guest.proofs.ReadLaws.{applied, applied-length, applied-append}
-use Rattle.guest.proofs.StoreLaws.{block-kept, block-block, Runs, store, touched-append}
+use Rattle.guest.proofs.StoreLaws.{block-kept, Runs, store, touched-append}
 use Rattle.definition.specs.Types.{Endpoint, Enabled, Default, Slot, Table, Answer}
 use Rattle.definition.specs.Table.{isDisabled, disabled, endpointOf, slotOf, withEndpoint, wellFormed}
 use Rattle.definition.specs.Walks.{Walk}

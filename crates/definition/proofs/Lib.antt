@@ -1,7 +1,7 @@
 pub mod TableLaws
 pub mod Cases
-pub mod MaskLaws
 pub mod CountLaws
+pub mod MaskLaws
 pub mod ShapeLaws
 pub mod EndedLaws
 pub mod IsolationLaws

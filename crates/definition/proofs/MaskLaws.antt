@@ -1,9 +1,9 @@
--- Ascending lists of numbers, and masks to which each adds its bit.
+-- Ascending lists of numbers, masks to which each adds its bit, and so the masks of a walk over endpoints and how much it stores.
 -- Assumes nothing.
 use mathlib.Core.Path.{_≡_, refl, sym, ap, _∙_}
 use mathlib.Core.Logic.{_⊎_, inl, inr}
 use mathlib.Core.Bool.{Bool, true, false}
-use mathlib.Core.List.{List, [], _∷_}
+use mathlib.Core.List.{List, [], _∷_, _++_}
 use Prim.Native.Nat.{ℕ, zero, suc, _+_, _-_, _*_, _/_, _%_, _^_, _≤_, _<_}
 use native.Mathlib.Nat.{pow-suc, add-mul-div-left, add-div-right, div-eq-of-lt, zero-div}
 use native.Mathlib.Numerals.{add-one}
@@ -11,9 +11,15 @@ use native.Mathlib.Omega.{arith}
 use native.Mathlib.Decide.{ℕ-discrete, decLt}
 use borrow.Author.Tests.{eqb-true, eq-eqb}
 use lib.Pow.{pow-pos, pow-mono, pow-add}
-use lib.ListN.{length}
-use Rattle.guest.specs.Bytes.{count, those, setBits, bit}
+use lib.ListN.{length, drop, length-take}
+use Rattle.guest.specs.Bytes.{count, those, setBits, bit, _⊕_}
 use Rattle.guest.proofs.ListLaws.{All, none, more, In, here, there, those-yes, those-no}
+use Rattle.guest.specs.Prog.{Mem, block, Store}
+use Rattle.guest.proofs.ReadLaws.{applied, total}
+use Rattle.guest.proofs.StoreLaws.{store, total-append}
+use Rattle.definition.specs.Types.{Slot, Table}
+use Rattle.definition.specs.Walks.{Walk, begin}
+use Rattle.definition.proofs.CountLaws.{Starts, fresh-base, kept-base, kept-ended, Dropping, Adding}
 
 -- ---- lists
 
@@ -140,3 +146,105 @@ bit-stays i x j h e = by (decLt j i) (eqb-true (x / 2 ^ j % 2) 1 e)
 
 pub bit-zero : (j : ℕ) → bit 0 j ≡ true → ⊥
 bit-zero j e = let z : 0 / 2 ^ j ≡ 0 = zero-div (2 ^ j) in let q : 0 / 2 ^ j % 2 ≡ 1 = eqb-true (0 / 2 ^ j % 2) 1 e in omega arith
+
+-- ---- the masks of a walk, and how much it stores
+
+-- a walk that has terminated endpoints below k and launched some below l
+pub record Going (k l : ℕ) (w : Walk) : Type 0 where
+  pub ended : Mask k (w .terminated)
+  pub begun : Mask l (w .launched)
+  pub port : w .launched ≡ 0 → w .port ≡ 0
+
+-- on the way down a list of endpoints to terminate, with n bytes at most in all
+pub record Drops (n : ℕ) (is : List ℕ) (ws : List Store) (w : Walk) : Type 0 where
+  pub from : ℕ
+  pub low : 1 ≤ from
+  pub left : Ascends 32 from is
+  pub going : Going from 1 w
+  pub stored : total ws + length is ≤ n
+
+pub drops : (n id base : ℕ) → Dropping id base (Drops n)
+unfolding total
+drops n id base =
+    record {
+      skip = λ i is ws w d.
+          let h = ascends-head (d .left) in
+          record {
+            from = i + 1;
+            low = omega arith;
+            left = h .1;
+            going = record { ended = mask-up (d .from) (i + 1) (w .terminated) (omega arith) (d .going .ended); begun = d .going .begun; port = d .going .port };
+            stored = omega arith;
+          };
+      go = λ i is ws w d _.
+          let h = ascends-head (d .left) in
+          record {
+            from = i + 1;
+            low = omega arith;
+            left = h .1;
+            going = record { ended = mask-bit (d .from) i (w .terminated) (d .low) (h .0) (d .going .ended); begun = d .going .begun; port = d .going .port };
+            stored = omega (arith, total-append ws (store (base ⊕ 32 * i) (0 ∷ []) ∷ []));
+          };
+    }
+
+-- on the way down a list of endpoints to add
+pub record Joins (n : ℕ) (is : List ℕ) (ws : List Store) (w : Walk) : Type 0 where
+  pub from : ℕ
+  pub low : 1 ≤ from
+  pub left : Ascends 32 from is
+  pub going : Going 32 from w
+  pub stored : total ws + 33 * length is ≤ n
+
+pub joins : (n : ℕ) (m : Mem) (id P base : ℕ) → Adding m id P base (Joins n)
+unfolding total
+joins n m id P base =
+    record {
+      turn = λ i is ws w d.
+          let h = ascends-head (d .left) in
+          record {
+            from = i + 1;
+            low = omega arith;
+            left = h .1;
+            going = record {
+              ended = d .going .ended;
+              begun = mask-bit (d .from) i (w .launched) (d .low) (h .0) (d .going .begun);
+              port = λ e. absurd (bit-some i (w .launched) e);
+            };
+            stored = omega (
+              arith,
+              total-append ws (store (base ⊕ 32 * i) (block (applied m ws) (P ⊕ 32 * (i + 1)) 32) ∷ store (base ⊕ 32 * i) (1 ∷ []) ∷ []),
+              length-take 32 (drop (P ⊕ 32 * (i + 1)) (applied m ws)),
+            );
+          };
+    }
+
+-- a walk at its beginning
+pub drops-begin : (n : ℕ) {is : List ℕ} (t : Table) → Ascends 32 1 is → length is ≤ n → Drops n is [] (begin t)
+unfolding total
+drops-begin n t a h =
+    record { from = 1; low = omega arith; left = a; going = record { ended = omega arith; begun = omega arith; port = λ _. refl }; stored = omega arith }
+
+-- a walk that came to its end
+pub drops-end : (n : ℕ) (ws : List Store) (w : Walk) → Drops n [] ws w → Going 32 1 w × (total ws ≤ n)
+drops-end n ws w d =
+    (record { ended = mask-up (d .from) 32 (w .terminated) (ascends-below (d .left)) (d .going .ended); begun = d .going .begun; port = d .going .port }, omega arith)
+
+-- launched endpoints lie below 32
+pub going-end : (l : ℕ) (w : Walk) → l ≤ 32 → Going 32 l w → Going 32 32 w
+going-end l w h g = record { ended = g .ended; begun = mask-up l 32 (w .launched) h (g .begun); port = g .port }
+
+-- at most thirty flags
+pub bits-few : (x : ℕ) → length (setBits 30 2 x) ≤ 30
+bits-few x = omega (arith, ascends-length (bits-ascend 30 2 x))
+
+-- one byte more
+pub one-more : (ws : List Store) (a b : ℕ) → total (ws ++ store a (b ∷ []) ∷ []) ≡ total ws + 1
+unfolding total
+one-more ws a b = total-append ws (store a (b ∷ []) ∷ [])
+
+-- how Address Device begins
+pub started : {m : Mem} {id : ℕ} {s : Slot} {t : Table} {ws : List Store} {base : ℕ} {w : Walk} → Starts m id s t ws base w → Going 2 1 w × (total ws ≤ 1)
+unfolding total
+started (fresh-base e) = (record { ended = omega arith; begun = omega arith; port = λ _. refl }, omega arith)
+started (kept-base e) = (record { ended = omega arith; begun = omega arith; port = λ _. refl }, omega arith)
+started (kept-ended e) = (record { ended = omega arith; begun = omega arith; port = λ _. refl }, omega arith)

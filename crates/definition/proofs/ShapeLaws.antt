@@ -7,20 +7,20 @@ use Prim.Native.Nat.{ℕ, _+_, _*_, _%_, _^_, _≤_, _<_}
 use native.Mathlib.Nat.{zero-add}
 use native.Mathlib.Omega.{arith}
 use lib.ListN.{length, drop, length-take}
-use Rattle.guest.specs.Bytes.{number, _⊕_, slotStateByte, count, setBits, those}
+use Rattle.guest.specs.Bytes.{number, _⊕_, slotStateByte, count, those}
 use Rattle.guest.specs.Prog.{Mem, done, bind, each, stores, block, run, Store, Result, refuse}
 use Rattle.guest.proofs.ListLaws.{count-length}
 use Rattle.guest.proofs.ReadLaws.{applied, total, run-count}
-use Rattle.guest.proofs.StoreLaws.{Runs, store, runs-done, runs-choose, runs-last, runs-map, runs-each, total-append}
+use Rattle.guest.proofs.StoreLaws.{Runs, runs-done, runs-choose, runs-last, runs-map, runs-each, total-append}
 use Rattle.definition.specs.Types.{Input, SlotState, Default, Addressed, Configured, Slot, Table, Answer}
 use Rattle.definition.specs.Table.{isFree, slotOf}
-use Rattle.definition.specs.Walks.{Walk, begin}
+use Rattle.definition.specs.Walks.{Walk}
 use Rattle.definition.specs.Steps.{Stepped}
 use Rattle.definition.specs.Commands as commands
 use Rattle.definition.specs.Commands.{contextState, Told, answer, walked, stepped, endpointCall}
 use Rattle.definition.specs.Calls.{Call, setLimit, setDcbaap, enableSlot, disableSlot, addressDevice, configureEndpoint, evaluateContext, resetDevice, resetAll, stopEndpoint, resetEndpoint, setDequeue, doorbell, hostOk, hostStall, hostTransactionError, hostTrbError, meaning, told, prog}
-use Rattle.definition.proofs.MaskLaws.{Ascends, Mask, mask-up, mask-bit, bit-some, ascends-below, ascends-length, count-ascends, bits-ascend, ascends-head, ascends-from}
-use Rattle.definition.proofs.CountLaws.{Starts, fresh-base, kept-base, kept-ended, copies, copied, half, Dropping, Adding, slot-runs, formed-runs, lent-runs, check-runs, settled-runs, deconfigure-runs, reconfigure-runs, address-runs, freeing-runs, reach-runs, prog-runs}
+use Rattle.definition.proofs.MaskLaws.{Going, drops, joins, drops-begin, drops-end, going-end, bits-few, one-more, started, mask-up, mask-bit, bit-some, ascends-below, count-ascends, bits-ascend, ascends-from}
+use Rattle.definition.proofs.CountLaws.{copies, copied, half, slot-runs, formed-runs, lent-runs, check-runs, settled-runs, deconfigure-runs, reconfigure-runs, address-runs, freeing-runs, reach-runs, prog-runs}
 
 -- the most bytes that a call stores
 abbrev pub mostStored : Call → ℕ
@@ -74,111 +74,9 @@ shape-stepped c n r h =
       cancel = flag-small (r .cancel);
     }
 
--- a walk that has terminated endpoints below k and launched some below l
-record Going (k l : ℕ) (w : Walk) : Type 0 where
-  ended : Mask k (w .terminated)
-  begun : Mask l (w .launched)
-  port : w .launched ≡ 0 → w .port ≡ 0
-
 shape-walked : (c : Call) (n : ℕ) (w : Walk) → n ≤ mostStored c → Going 32 32 w → Shape c n (walked w)
 shape-walked c n w h g =
     record { stored = h; launched = g .begun; terminated = g .ended; slot = λ _. refl; port = g .port; submit = omega arith; cancel = omega arith }
-
--- ---- walks
-
--- on the way down a list of endpoints to terminate, with n bytes at most in all
-record Drops (n : ℕ) (is : List ℕ) (ws : List Store) (w : Walk) : Type 0 where
-  from : ℕ
-  low : 1 ≤ from
-  left : Ascends 32 from is
-  going : Going from 1 w
-  stored : total ws + length is ≤ n
-
-drops : (n id base : ℕ) → Dropping id base (Drops n)
-unfolding total
-drops n id base =
-    record {
-      skip = λ i is ws w d.
-          let h = ascends-head (d .left) in
-          record {
-            from = i + 1;
-            low = omega arith;
-            left = h .1;
-            going = record { ended = mask-up (d .from) (i + 1) (w .terminated) (omega arith) (d .going .ended); begun = d .going .begun; port = d .going .port };
-            stored = omega arith;
-          };
-      go = λ i is ws w d _.
-          let h = ascends-head (d .left) in
-          record {
-            from = i + 1;
-            low = omega arith;
-            left = h .1;
-            going = record { ended = mask-bit (d .from) i (w .terminated) (d .low) (h .0) (d .going .ended); begun = d .going .begun; port = d .going .port };
-            stored = omega (arith, total-append ws (store (base ⊕ 32 * i) (0 ∷ []) ∷ []));
-          };
-    }
-
--- on the way down a list of endpoints to add
-record Joins (n : ℕ) (is : List ℕ) (ws : List Store) (w : Walk) : Type 0 where
-  from : ℕ
-  low : 1 ≤ from
-  left : Ascends 32 from is
-  going : Going 32 from w
-  stored : total ws + 33 * length is ≤ n
-
-joins : (n : ℕ) (m : Mem) (id P base : ℕ) → Adding m id P base (Joins n)
-unfolding total
-joins n m id P base =
-    record {
-      turn = λ i is ws w d.
-          let h = ascends-head (d .left) in
-          record {
-            from = i + 1;
-            low = omega arith;
-            left = h .1;
-            going = record {
-              ended = d .going .ended;
-              begun = mask-bit (d .from) i (w .launched) (d .low) (h .0) (d .going .begun);
-              port = λ e. absurd (bit-some i (w .launched) e);
-            };
-            stored = omega (
-              arith,
-              total-append ws (store (base ⊕ 32 * i) (block (applied m ws) (P ⊕ 32 * (i + 1)) 32) ∷ store (base ⊕ 32 * i) (1 ∷ []) ∷ []),
-              length-take 32 (drop (P ⊕ 32 * (i + 1)) (applied m ws)),
-            );
-          };
-    }
-
--- a walk at its beginning
-drops-begin : (n : ℕ) {is : List ℕ} (t : Table) → Ascends 32 1 is → length is ≤ n → Drops n is [] (begin t)
-unfolding total
-drops-begin n t a h =
-    record { from = 1; low = omega arith; left = a; going = record { ended = omega arith; begun = omega arith; port = λ _. refl }; stored = omega arith }
-
--- a walk that came to its end
-drops-end : (n : ℕ) (ws : List Store) (w : Walk) → Drops n [] ws w → Going 32 1 w × (total ws ≤ n)
-drops-end n ws w d =
-    (record { ended = mask-up (d .from) 32 (w .terminated) (ascends-below (d .left)) (d .going .ended); begun = d .going .begun; port = d .going .port }, omega arith)
-
--- launched endpoints lie below 32
-going-end : (l : ℕ) (w : Walk) → l ≤ 32 → Going 32 l w → Going 32 32 w
-going-end l w h g = record { ended = g .ended; begun = mask-up l 32 (w .launched) h (g .begun); port = g .port }
-
--- at most thirty flags
-bits-few : (x : ℕ) → length (setBits 30 2 x) ≤ 30
-bits-few x = omega (arith, ascends-length (bits-ascend 30 2 x))
-
--- one byte more
-one-more : (ws : List Store) (a b : ℕ) → total (ws ++ store a (b ∷ []) ∷ []) ≡ total ws + 1
-unfolding total
-one-more ws a b = total-append ws (store a (b ∷ []) ∷ [])
-
--- how Address Device begins
-started : {m : Mem} {id : ℕ} {s : Slot} {t : Table} {ws : List Store} {base : ℕ} {w : Walk} → Starts m id s t ws base w → Going 2 1 w × (total ws ≤ 1)
-unfolding total
-started (fresh-base e) = (record { ended = omega arith; begun = omega arith; port = λ _. refl }, omega arith)
-started (kept-base e) = (record { ended = omega arith; begun = omega arith; port = λ _. refl }, omega arith)
-started (kept-ended e) = (record { ended = omega arith; begun = omega arith; port = λ _. refl }, omega arith)
 
 -- ---- commands
 
@@ -268,8 +166,13 @@ module _ (c : Call) (t : Table) where
   enable-fits (id ∷ ids) e =
       let zero = shape-answer c 0 1 (omega arith) in
       runs-done (record {
-        stored = zero .stored; launched = zero .launched; terminated = zero .terminated; slot = λ n. absurd (n e); port = λ _. refl;
-        submit = zero .submit; cancel = zero .cancel;
+        stored = zero .stored;
+        launched = zero .launched;
+        terminated = zero .terminated;
+        slot = λ n. absurd (n e);
+        port = λ _. refl;
+        submit = zero .submit;
+        cancel = zero .cancel;
       })
 
 -- every call's meaning
