@@ -70,7 +70,8 @@ launch-word n at c h l =
     ∙ block-block n c 32 8 8 l (omega arith)
 
 -- a context stored, and then a byte of it
-pub context-stores : (n : Mem) (c base at b x : ℕ) → base ≤ at → at < base + 32 → Touched (store base (block n c 32) ∷ store at (b ∷ []) ∷ []) x → Within base 32 x
+pub context-stores : (n : Mem) (c base at b x : ℕ) → base ≤ at → at < base + 32
+    → Touched (store base (block n c 32) ∷ store at (b ∷ []) ∷ []) x → Within base 32 x
 unfolding Touched
 context-stores n c base at b x l g h =
     ⊎-elim (λ w. omega (arith, length-take 32 (drop c n))) (⊎-elim (λ w. omega arith) (λ q. absurd q)) h

@@ -21,7 +21,7 @@ use Rattle.definition.specs.Types.{Slot, Table}
 use Rattle.definition.specs.Walks.{Walk, begin}
 use Rattle.definition.proofs.CountLaws.{Starts, fresh-base, kept-base, kept-ended, Dropping, Adding}
 
--- ---- lists
+-- ---- lists: what all of a list have, and what is in it
 
 pub all-head : {P : ℕ → Type 0} {i : ℕ} {is : List ℕ} → All P (i ∷ is) → P i × All P is
 all-head (more p a) = (p, a)
@@ -47,10 +47,12 @@ pub data Ascends (n : ℕ) : ℕ → List ℕ → Type 0 where
 pub ascends-head : {n k i : ℕ} {is : List ℕ} → Ascends n k (i ∷ is) → (k ≤ i) × Ascends n (i + 1) is
 ascends-head (next b a) = (b, a)
 
+-- from a lower number on
 pub ascends-from : {n k : ℕ} {is : List ℕ} (j : ℕ) → j ≤ k → Ascends n k is → Ascends n j is
 ascends-from j h (ends b) = ends {k = j} (omega arith)
 ascends-from j h (next {i = i} b a) = next {k = j} {i = i} (omega arith) a
 
+-- how far they go, and how many they are
 pub ascends-below : {n k : ℕ} {is : List ℕ} → Ascends n k is → k ≤ n
 ascends-below (ends b) = b
 ascends-below (next b a) = omega (arith, ascends-below a)
@@ -59,6 +61,7 @@ pub ascends-length : {n k : ℕ} {is : List ℕ} → Ascends n k is → k + leng
 ascends-length (ends b) = omega arith
 ascends-length (next b a) = omega (arith, ascends-length a)
 
+-- counted numbers ascend, and so do those of a list that pass a test
 pub count-ascends : (n i : ℕ) → Ascends (i + n) i (count n i)
 unfolding count
 count-ascends zero i = ends {k = i} (omega arith)
@@ -83,6 +86,7 @@ bits-ascend n i x = those-ascends (bit x) (count-ascends n i)
 abbrev pub Mask : ℕ → ℕ → Type 0
 Mask k x = (x < 2 ^ k) × (x % 2 ≡ 0)
 
+-- with room for more bits
 pub mask-up : (k i x : ℕ) → k ≤ i → Mask k x → Mask i x
 mask-up k i x h q = (omega (arith, pow-mono h), q .1)
 
@@ -144,6 +148,7 @@ bit-stays i x j h e = by (decLt j i) (eqb-true (x / 2 ^ j % 2) 1 e)
         let m : 2 ^ i ≤ 2 ^ j = pow-mono (omega arith) in
         let z : x / 2 ^ j ≡ 0 = div-eq-of-lt (omega arith) in absurd (omega arith)
 
+-- 0 has no bit
 pub bit-zero : (j : ℕ) → bit 0 j ≡ true → ⊥
 bit-zero j e = let z : 0 / 2 ^ j ≡ 0 = zero-div (2 ^ j) in let q : 0 / 2 ^ j % 2 ≡ 1 = eqb-true (0 / 2 ^ j % 2) 1 e in omega arith
 

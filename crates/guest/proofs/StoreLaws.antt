@@ -20,6 +20,7 @@ given (done x) m = x
 given (get a n k) m = given (k (block m a n)) m
 given (put a bs p) m = given p (splice m a bs)
 
+-- which is the run's, whatever was stored before
 pub run-given : {A : Type 0} (p : Prog A) (m : Mem) (s : ℕ) → run p m s .value ≡ given p m
 unfolding run given
 run-given (done x) m s = refl
@@ -34,6 +35,7 @@ pub record Runs {A : Type 0} (p : Prog A) (m : Mem) (R : List Store → A → Ty
 pub runs-run : {A : Type 0} {p : Prog A} {m : Mem} {R : List Store → A → Type 0} → Runs p m R → (s : ℕ) → R (stores p m) (run p m s .value)
 runs-run {p = p} {m} h s = rw (run-given p m s) (h .holds)
 
+-- and all that follows from R
 pub runs-map : {A : Type 0} {p : Prog A} {m : Mem} {Q R : List Store → A → Type 0} → ((ws : List Store) (x : A) → Q ws x → R ws x) → Runs p m Q → Runs p m R
 runs-map {p = p} {m} f h = record { holds = f (stores p m) (given p m) (h .holds) }
 
@@ -57,12 +59,14 @@ runs-put h = record { holds = h .holds }
 
 -- ---- tests
 
+-- each way may use that it is taken
 pub runs-choose : {A : Type 0} {b : Bool} {p q : Prog A} {m : Mem} {R : List Store → A → Type 0} → (b ≡ true → Runs p m R) → (b ≡ false → Runs q m R)
     → Runs (choose b p q) m R
 unfolding choose
 runs-choose {b = true} f g = f refl
 runs-choose {b = false} f g = g refl
 
+-- past a test of a range, it lies in memory
 pub runs-need : {A : Type 0} {len : ℕ} (a n : ℕ) {p : Prog (Result A)} {m : Mem} {R : List Store → Result A → Type 0} → R [] (refuse 193)
     → (a + n ≤ len → Runs p m R) → Runs (need len a n p) m R
 unfolding need
@@ -70,6 +74,7 @@ runs-need {len = len} a n r f = runs-choose (λ e. f (inside-yes len a n e)) (λ
 
 -- ---- one program and then another
 
+-- what the first part's stores and value have, the second may use
 pub runs-bind : {A B : Type 0} {p : Prog A} {f : A → Prog B} {m : Mem} {R : List Store → B → Type 0} (Q : List Store → A → Type 0) → Runs p m Q
     → ((ws : List Store) (x : A) → Q ws x → Runs (f x) (applied m ws) (λ vs y. R (ws ++ vs) y)) → Runs (bind p f) m R
 unfolding stores given bind applied
@@ -119,12 +124,14 @@ module _ {A : Type 0} (f : ℕ → A → Prog A) (m : Mem) (I : List ℕ → Lis
       runs-bind (λ vs z. I is (ws ++ vs) z) (turn i is ws y h)
       (λ vs z q. rw (← applied-append ws vs m) (runs-map (λ us x k. rw (← append-assoc ws vs us) k) (each-from is (ws ++ vs) z q)))
 
+  -- a walk from its beginning
   pub runs-each : {is : List ℕ} {x : A} → I is [] x → Runs (each is f x) m (I [])
   unfolding applied
   runs-each {is} {x} h = each-from is [] x h
 
 -- ---- lists of stores
 
+-- one list of stores after another: how many bytes, and to which addresses
 pub total-append : (ws vs : List Store) → total (ws ++ vs) ≡ total ws + total vs
 unfolding total
 total-append [] vs = omega arith
