@@ -18,10 +18,8 @@ use Rattle.endpoint.specs.Promises.{valueOf, judged, Takes, Launches, Te
 pub goes-on : {p : Prog (Result Stepped)} {e : Endpoint} {m m′ : Mem} {r : Taken} → Takes p e m r m′ → r .code ≤ 1 → Ends p m 0 (ok (valueOf r)) m′ (r .stored)
 goes-on {r = r} t h = rw (le-leb (r .code) 1 h) at (t .ends)
 
-pub is-refused : {p : Prog (Result Stepped)} {e : Endpoint} {m m′ : Mem} {r : Taken} → Takes p e m r m′ → 1 < r .code → Ends p m 0 (refuse (r .code)) m 0
-is-refused {p} {e} {m} {m′} {r} t h =
-    let ends : Ends p m 0 (refuse (r .code)) m′ (r .stored) = rw (lt-leb (r .code) 1 h) at (t .ends) in
-    rw (t .kept h, t .refused h .stored) at ends
+pub is-refused : {p : Prog (Result Stepped)} {e : Endpoint} {m m′ : Mem} {r : Taken} → Takes p e m r m′ → 1 < r .code → Ends p m 0 (refuse (r .code)) m′ 0
+is-refused {r = r} t h = rw (lt-leb (r .code) 1 h, t .refused h .stored) at (t .ends)
 
 -- ---- any two outcomes are equal
 
