@@ -8,7 +8,7 @@ use native.Mathlib.Omega.{arith}
 use lib.ListN.{length}
 use Rattle.guest.specs.Bytes.{_⊕_, count, those}
 use Rattle.guest.specs.Prog.{Mem, Ran, ran, run}
-use Rattle.guest.proofs.ListLaws.{none, all-in, In, count-in, those-in}
+use Rattle.guest.proofs.ListLaws.{In, in-none, count-in, those-in}
 use Rattle.guest.proofs.EveryLaws.{now, up-reached}
 use Rattle.guest.proofs.RunLaws.{choose-yes}
 use Rattle.definition.specs.Types.{Enabled, Table}
@@ -53,7 +53,7 @@ module _ (t : Table) where
 
   all-used : those Free (count (t .limit) 1) ≡ [] → AllUsed t
   all-used e id a b =
-      is-false _ (λ f. all-in {P = λ j. ⊥} none id (subst (In id) e (those-in Free (count-in (t .limit) 1 id a (omega arith)) f)))
+      is-false _ (λ f. in-none (subst (In id) e (those-in Free (count-in (t .limit) 1 id a (omega arith)) f)))
 
   enabling : (m : Mem) (ids : List ℕ) → those Free (count (t .limit) 1) ≡ ids
       → Enabling t m (ran (told t (run (enableOne t ids) m 0 .value)) (run (enableOne t ids) m 0 .memory) (run (enableOne t ids) m 0 .stored))

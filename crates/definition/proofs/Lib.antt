@@ -17,3 +17,9 @@ pub mod FormedHeads
 pub mod FormedSlots
 pub mod FormedDevices
 pub mod FormedCalls
+pub mod CountLaws
+pub mod MaskLaws
+pub mod ShapeLaws
+pub mod EndedLaws
+pub mod IsolationLaws
+pub mod LaunchedLaws

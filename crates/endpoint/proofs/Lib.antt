@@ -1,2 +1,4 @@
 pub mod TableLaws
 pub mod StepLaws
+pub mod PromiseLaws
+pub mod KeepLaws

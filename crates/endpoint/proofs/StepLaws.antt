@@ -10,9 +10,9 @@ use borrow.Author.Tests.{eqb-true, not-false, le-ltb, lt-ltb, le-leb, lt-leb}
 use lib.Dec.{leb, ltb, eqb, lit≤}
 use lib.ListN.{length}
 use Rattle.guest.specs.Bytes.{number, bytes, pointerOf, cycleOf}
-use Rattle.guest.specs.Prog.{Mem, Prog, done, put, block, splice, Ran, ran, run, Ends, choose, bind, Result, ok, refuse}
+use Rattle.guest.specs.Prog.{Mem, Prog, done, block, splice, run, Ends, choose, bind, Result, ok, refuse}
 use Rattle.guest.proofs.WordLaws.{bytes-length}
-use Rattle.guest.proofs.RunLaws.{run-done, run-put, run-get, choose-yes, choose-no, after, ends-done, ends-from}
+use Rattle.guest.proofs.RunLaws.{choose-no, after, ends-from}
 use Rattle.definition.specs.declared.EndpointState.{EndpointState}
 use Rattle.definition.specs.declared.EndpointState.the-variants.{Disabled, Waiting, InFlight, Halted, Error, StoppedContinuable, Stopped}
 use Rattle.definition.specs.declared.Endpoint.{Endpoint}
@@ -23,7 +23,7 @@ use Rattle.definition.specs.declared.Row.{Row}
 use Rattle.definition.specs.Table.{endpointNumber, isDisabled, disabled}
 use Rattle.definition.specs.Steps.{entry, reportOf, submits, misaligned, moved, wordOf, Stepped, putWhen, stepBy, step, launchAt, terminateAt}
 use Rattle.endpoint.specs.declared.Taken.{Taken}
-use Rattle.endpoint.specs.Promises.{Ready, judged, Unmoved, Takes, Launches, Terminates}
+use Rattle.endpoint.specs.Promises.{Ready, Unmoved, Takes, Launches, Terminates}
 use Rattle.endpoint.specs.Stores.{Puts, Stores}
 
 -- ---- what is stored where a test passes
@@ -63,10 +63,10 @@ both-stores r e at {w} {m} {m₁} {m₂} {n} {k} d p q =
       few = omega (arith, p .few, q .few, bytes-length 8 w);
     }
 
+-- ---- a step by an entry of the table
+
 no : false ≡ true → ⊥
 no e = let z : _≡_ {A = ℕ} 0 1 = cc in omega arith
-
--- ---- a step by an entry of the table
 
 -- a place that is taken is judged, and no other
 pub judged-place : (t g : Bool) {x : Bool} → t && g ≡ true → x ≡ t && g && x
@@ -115,9 +115,9 @@ refused-place r e p at m h b = record { ends = rw (le-ltb 1 (r .code) h, b) }
 pub takes-refusal : {p : Prog (Result Stepped)} {e : Endpoint} {m : Mem} {r : Taken} (c : ℕ) → Ends p m 0 (refuse c) m 0 → (r .code ≡ c) × Unmoved e r → 1 < c → c ≤ 196
     → e .pointer % 16 ≡ 0 → Takes p e m r m
 takes-refusal {p} {e} {m} {r} c d u h l a =
-    let no : leb (r .code) 1 ≡ false = lt-leb (r .code) 1 (omega (arith, u .0)) in
+    let refused : leb (r .code) 1 ≡ false = lt-leb (r .code) 1 (omega (arith, u .0)) in
     record {
-      ends = record { ends = rw (no, u .0, u .1 .stored) (d .ends) };
+      ends = record { ends = rw (refused, u .0, u .1 .stored) (d .ends) };
       refused = λ _. u .1;
       kept = λ _. refl;
       small = omega (arith, u .0);
@@ -176,7 +176,7 @@ terminate-works e at h = in-state (e .state) (e .cycle) (e .pointer) h
     in-state : (s : EndpointState) (y : Bool) (q : ℕ) → eqb (endpointNumber s) 0 ≡ false
         → step (record { state = s; cycle = y; pointer = q }) Terminate at
         ≡ bind (terminateAt (record { state = s; cycle = y; pointer = q }) at) (λ f. done (ok (record { endpoint = f; code = 1; submit = false; cancel = false })))
-    in-state Disabled y q h = let z : _≡_ {A = Bool} true false = h in cc
+    in-state Disabled y q h = absurd (no (sym h))
     in-state Waiting y q h = refl
     in-state InFlight y q h = refl
     in-state Halted y q h = refl

@@ -42,16 +42,18 @@ at₂ f n m i k d e h l = rw (at (λ s. tabulate (f s) m 0) n i d h) (at (f i) m
 
 -- ---- a test of every entry
 
-every : {A : Type 0} → (A → Bool) → List A → Bool
-every f [] = true
-every f (x ∷ l) = f x && every f l
-
+-- both of two tests pass
 both : (a b : Bool) → a && b ≡ true → (a ≡ true) × (b ≡ true)
 both true b e = (refl, e)
 both false b e = (e, let z : b ≡ true = cc in z)
 
--- a test that each element and the default pass
-passes : {A : Type 0} (f : A → Bool) (l : List A) (k : ℕ) (d : A) → every f l ≡ true → f d ≡ true → f (getD l k d) ≡ true
+-- each element of a list passes
+unfoldable pub every : {A : Type 0} → (A → Bool) → List A → Bool
+every f [] = true
+every f (x ∷ l) = f x && every f l
+
+-- .. then so does what stands at an index, if the default does too
+pub passes : {A : Type 0} (f : A → Bool) (l : List A) (k : ℕ) (d : A) → every f l ≡ true → f d ≡ true → f (getD l k d) ≡ true
 unfolding every
 passes f [] k d h e = e
 passes f (x ∷ l) zero d h e = both (f x) (every f l) h .0
@@ -81,6 +83,7 @@ pub row-back : {e : Entry} {n : EndpointState} (r : Row) → e ≡ entryFrom r �
     → record { code = e .code; moves = e .moves; next = n; stores = e .stores; byte = e .byte; takes = e .takes; looks = e .looks; saves = e .saves; cancels = e .cancels } ≡ r
 row-back r d k = rw (k, d, state-back (r .next))
 
+-- the numbers from 6 on are taken for Stopped
 pub six-up : (n : ℕ) → 6 ≤ n → Stopped ≡ stateFrom n
 six-up n h = let k : n ≡ suc (suc (suc (suc (suc (suc (n - 6)))))) = omega arith in rw k
 

@@ -1,17 +1,14 @@
 -- What this crate's functions promise. A crate above needs nothing of it but these.
 -- Assumes nothing.
 use mathlib.Core.Path.{_≡_}
-use mathlib.Core.Bool.{Bool, true, false, cond}
-use mathlib.Core.List.{List, [], _∷_}
+use mathlib.Core.Bool.{false, cond}
 use Prim.Native.Nat.{ℕ, _+_, _%_, _≤_, _<_}
 use lib.Dec.{leb}
 use lib.ListN.{length}
-use Rattle.guest.specs.Bytes.{bytes}
-use Rattle.guest.specs.Prog.{Mem, Prog, done, Ends, Result, ok, refuse}
+use Rattle.guest.specs.Prog.{Mem, Prog, Ends, Result, ok, refuse}
 use Rattle.definition.specs.declared.Endpoint.{Endpoint}
-use Rattle.definition.specs.declared.Row.{Row}
 use Rattle.definition.specs.Table.{isDisabled}
-use Rattle.definition.specs.Steps.{Stepped, putWhen, wordOf, launchAt, terminateAt}
+use Rattle.definition.specs.Steps.{Stepped, launchAt, terminateAt}
 use Rattle.endpoint.specs.declared.Taken.{Taken}
 use Rattle.endpoint.specs.declared.Terminated.{Terminated}
 
@@ -22,10 +19,13 @@ pub record Ready (e : Endpoint) (at : ℕ) (m : Mem) : Type 0 where
 
 -- ---- a step
 
--- the value that the definition gives for what a step leaves: code 0 or 1 with the record and the effects, or a refusal
+-- what a step leaves, as the definition's value
+abbrev pub valueOf : Taken → Stepped
+valueOf r = record { endpoint = r .endpoint; code = r .code; submit = r .submit; cancel = r .cancel }
+
+-- .. where the code is 0 or 1; any other is a refusal
 abbrev pub judged : Taken → Result Stepped
-judged r =
-    cond (leb (r .code) 1) (ok (record { endpoint = r .endpoint; code = r .code; submit = r .submit; cancel = r .cancel })) (refuse (r .code))
+judged r = cond (leb (r .code) 1) (ok (valueOf r)) (refuse (r .code))
 
 -- "Everything but the code is 0 in a refusal", and the record is as it was
 pub record Unmoved (e : Endpoint) (r : Taken) : Type 0 where
@@ -45,11 +45,13 @@ pub record Takes (p : Prog (Result Stepped)) (e : Endpoint) (m : Mem) (r : Taken
 
 -- ---- launch and terminate
 
+-- the launch of the endpoint whose context is at `at`, over the memory m, ends in the record r and the memory m′
 pub record Launches (at : ℕ) (m : Mem) (r : Endpoint) (m′ : Mem) : Type 0 where
   pub ends : Ends (launchAt at) m 0 r m′ 1
   pub enabled : isDisabled r ≡ false
   pub aligned : r .pointer % 16 ≡ 0
 
+-- the same of the endpoint e, terminated: one byte is stored, or none where it was disabled
 pub record Terminates (e : Endpoint) (at : ℕ) (m : Mem) (r : Terminated) (m′ : Mem) : Type 0 where
   pub ends : Ends (terminateAt e at) m 0 (r .endpoint) m′ (r .stored)
   pub count : r .stored ≡ cond (isDisabled e) 0 1

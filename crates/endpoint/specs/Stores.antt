@@ -5,7 +5,7 @@ use mathlib.Core.List.{List, [], _∷_}
 use Prim.Native.Nat.{ℕ, _+_, _≤_}
 use lib.ListN.{length}
 use Rattle.guest.specs.Bytes.{bytes}
-use Rattle.guest.specs.Prog.{Mem, Prog, done, Ends}
+use Rattle.guest.specs.Prog.{Mem, done, Ends}
 use Rattle.definition.specs.declared.Endpoint.{Endpoint}
 use Rattle.definition.specs.declared.Row.{Row}
 use Rattle.definition.specs.Steps.{putWhen, wordOf}

@@ -10,7 +10,7 @@ ghost use Rattle.definition.specs.Table.{endpointNumber};
 ghost use Rattle.definition.specs.Steps.{column, entry};
 ghost use Rattle.endpoint.specs.Entries.{stateFrom, entryFrom, rowAt};
 
-// The states by number: Disabled is 0, and the resting states follow in the table's order.
+// The next states by number: Disabled is 0, and the resting states follow in the table's order. In flight, 2, is a look's alone.
 const DISABLED: u8 = 0;
 
 const WAITING: u8 = 1;
@@ -189,7 +189,7 @@ const STEPS: [[Entry; 9]; 6] = [
     [RESUME, WRONG, WRONG, AIM, END, STRAY, STRAY, STRAY, STRAY], // Stopped.
 ];
 
-// A state by its number: Disabled is 0, and the resting states follow in the table's order.
+// A state's number.
 pub fn state_number(s: EndpointState) -> usize
     ensures { λ r. ⌜ r ≡ endpointNumber s ⌝ }
 {

@@ -10,3 +10,4 @@ pub mod ReadLaws
 pub mod FormLaws
 pub mod EveryLaws
 pub mod TraceLaws
+pub mod StoreLaws

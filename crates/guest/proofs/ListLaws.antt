@@ -3,6 +3,7 @@
 use mathlib.Core.Path.{_≡_, refl, ap}
 use mathlib.Core.Bool.{Bool, true, false, _&&_}
 use mathlib.Core.List.{List, [], _∷_}
+use mathlib.Core.Logic.{_⊎_, inl, inr}
 use Prim.Native.Nat.{ℕ, zero, suc, _+_, _-_, _≤_, _<_}
 use native.Mathlib.Omega.{arith}
 use native.Mathlib.Decide.{ℕ-discrete}
@@ -23,10 +24,20 @@ pub all-both : {P Q : ℕ → Type 0} {is : List ℕ} → All P is → All Q is 
 all-both none none = none
 all-both (more p a) (more q b) = more (p, q) (all-both a b)
 
+pub all-head : {P : ℕ → Type 0} {i : ℕ} {is : List ℕ} → All P (i ∷ is) → P i × All P is
+all-head (more p a) = (p, a)
+
 -- i is one of a list
 pub data In (i : ℕ) : List ℕ → Type 0 where
   here : {is : List ℕ} → In i (i ∷ is)
   there : {j : ℕ} {is : List ℕ} → In i is → In i (j ∷ is)
+
+pub in-none : {i : ℕ} → In i [] → ⊥
+in-none h = elim h [ ]
+
+pub in-cases : {i j : ℕ} {is : List ℕ} → In j (i ∷ is) → (j ≡ i) ⊎ In j is
+in-cases here = inl refl
+in-cases (there n) = inr n
 
 pub all-in : {P : ℕ → Type 0} {is : List ℕ} → All P is → (i : ℕ) → In i is → P i
 all-in {P} (more p a) i here = p

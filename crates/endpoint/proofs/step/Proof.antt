@@ -1,30 +1,21 @@
-use Rattle.endpoint.proofs.StepLaws.{by-entry}
+-- `endpoint::step` meets its contract. Assumes nothing.
 use borrow.Author.Needs.{needs}
+use Rattle.endpoint.proofs.StepLaws.{by-entry}
 use Rattle.endpoint.proofs.step.Statement.{statement}
 use Rattle.endpoint.proofs.step.Tie as tie
-use Rattle.endpoint.proofs.step.Reads as reads
-use Rattle.endpoint.proofs.step.Lts as lts
-use Rattle.endpoint.proofs.report.report_of.Reads as report-of-reads
-use Rattle.endpoint.proofs.step_by.Reads as step-by-reads
-use Rattle.endpoint.proofs.table.row_of.Reads as row-of-reads
 
--- src/lib.rt:93:9
 row-of-requires : tie.Need-row-of-requires
 row-of-requires c κs = search needs
 
--- src/lib.rt:94:9
 report-of-requires : tie.Need-report-of-requires
 report-of-requires c κs = search needs
 
--- src/lib.rt:95:5
 step-by-requires : tie.Need-step-by-requires
 step-by-requires c κs = search needs
 
--- src/lib.rt:87:1
 same-length : tie.Need-same-length
 same-length c = search needs
 
--- src/lib.rt:87:1
 returns : tie.Need-returns
 returns c =
     let s = c .before .before in

@@ -1,42 +1,29 @@
-use native.Mathlib.Omega.{arith}
+-- `endpoint::step_by` meets its contract. Assumes nothing.
 use mathlib.Core.Path.{sym, _∙_}
-use Rattle.endpoint.proofs.StepLaws.{refused-state, refused-place, takes-refusal, takes-done, moved-ready}
 use lib.Dec.{lit<, lit≤}
 use borrow.Author.Needs.{needs}
+use Rattle.endpoint.proofs.StepLaws.{refused-state, refused-place, takes-refusal, takes-done, moved-ready}
 use Rattle.endpoint.proofs.step_by.Statement.{statement}
 use Rattle.endpoint.proofs.step_by.Tie as tie
-use Rattle.endpoint.proofs.step_by.Reads as reads
-use Rattle.endpoint.proofs.step_by.Lts as lts
-use Rattle.endpoint.proofs.context.store.Reads as store-reads
-use Rattle.endpoint.proofs.record.misaligned.Reads as misaligned-reads
-use Rattle.endpoint.proofs.record.moved.Reads as moved-reads
-use Rattle.endpoint.proofs.record.submits.Reads as submits-reads
-use Rattle.endpoint.proofs.refused.Reads as refused-reads
 
--- src/lib.rt:69:16
 cast-code : tie.Need-cast-code
 cast-code c = search needs
 
--- src/lib.rt:71:9
 refused-requires : tie.Need-refused-requires
 refused-requires c κs = search needs
 
--- src/lib.rt:71:9
 returns : tie.Need-returns
 returns c =
     let a = c .before .before .before .before in
     let h = c .before .if1 .taken in
     takes-refusal (a .args .row .code) (refused-state (a .args .row) (a .args .e) (a .args .report) (a .args .at) _ h) (c .refused .ensures) h (a .pre .0) (a .pre .1 .aligned)
 
--- src/lib.rt:73:8
 misaligned-requires : tie.Need-misaligned-requires
 misaligned-requires c κs = search needs
 
--- src/lib.rt:74:9
 refused-requires-2 : tie.Need-refused-requires-2
 refused-requires-2 c κs = search needs
 
--- src/lib.rt:74:9
 returns-2 : tie.Need-returns-2
 returns-2 c =
     let j = c .before .before in
@@ -44,15 +31,12 @@ returns-2 c =
     let bad = sym (j .misaligned .ensures) ∙ c .before .if2 .taken in
     takes-refusal 195 (refused-place (a .args .row) (a .args .e) (a .args .report) (a .args .at) _ (j .before .if1 .left) bad) (c .refused2 .ensures) (lit< tt) (lit≤ tt) (a .pre .1 .aligned)
 
--- src/lib.rt:76:9
 moved-requires : tie.Need-moved-requires
 moved-requires c κs = search needs
 
--- src/lib.rt:77:9
 submits-requires : tie.Need-submits-requires
 submits-requires c κs = search needs
 
--- src/lib.rt:78:9
 store-requires : tie.Need-store-requires
 store-requires c κs =
     let n = c .before .before in
@@ -60,11 +44,9 @@ store-requires c κs =
     let a = j .before .before .before .before in
     moved-ready (a .args .row) (a .args .e) (a .args .report) (sym (j .misaligned .ensures) ∙ n .before .if2 .left) (n .moved .ensures) (a .pre .1)
 
--- src/lib.rt:64:1
 same-length : tie.Need-same-length
 same-length c = search needs
 
--- src/lib.rt:64:1
 returns-3 : tie.Need-returns-3
 returns-3 c =
     let n = c .before .before .before .before .before in

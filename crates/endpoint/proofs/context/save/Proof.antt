@@ -1,24 +1,18 @@
-use Rattle.endpoint.proofs.StepLaws.{saved, puts-no}
+-- `endpoint::context::save` meets its contract. Assumes nothing.
 use borrow.Author.Needs.{needs}
+use Rattle.endpoint.proofs.StepLaws.{saved, puts-no}
 use Rattle.endpoint.proofs.context.save.Statement.{statement}
 use Rattle.endpoint.proofs.context.save.Tie as tie
-use Rattle.endpoint.proofs.context.save.Reads as reads
-use Rattle.endpoint.proofs.context.save.Lts as lts
-use Rattle.guest.proofs.context.store_pointer.Reads as store-pointer-reads
 
--- src/context.rt:38:9
 store-pointer-requires : tie.Need-store-pointer-requires
 store-pointer-requires c κs = search needs
 
--- src/context.rt:39:9
 same-length : tie.Need-same-length
 same-length c = search needs
 
--- src/context.rt:39:9
 returns : tie.Need-returns
 returns c = saved _ _ (c .before .before .before .before .if1 .taken) (c .before .before .store-pointer .ensures)
 
--- src/context.rt:33:1
 returns-2 : tie.Need-returns-2
 returns-2 c = puts-no _ _ (c .if1 .left)
 

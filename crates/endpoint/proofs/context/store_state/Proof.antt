@@ -1,25 +1,18 @@
-use mathlib.Core.List.{[], _∷_}
-use Rattle.endpoint.proofs.StepLaws.{puts-yes, puts-no}
+-- `endpoint::context::store_state` meets its contract. Assumes nothing.
 use borrow.Author.Needs.{needs}
+use Rattle.endpoint.proofs.StepLaws.{puts-yes, puts-no}
 use Rattle.endpoint.proofs.context.store_state.Statement.{statement}
 use Rattle.endpoint.proofs.context.store_state.Tie as tie
-use Rattle.endpoint.proofs.context.store_state.Reads as reads
-use Rattle.endpoint.proofs.context.store_state.Lts as lts
-use Rattle.guest.proofs.context.store_state.Reads as store-state-reads
 
--- src/context.rt:26:9
 store-state-requires : tie.Need-store-state-requires
 store-state-requires c κs = search needs
 
--- src/context.rt:27:9
 same-length : tie.Need-same-length
 same-length c = search needs
 
--- src/context.rt:27:9
 returns : tie.Need-returns
 returns c = puts-yes _ _ (c .before .before .before .before .if1 .taken) (c .before .before .store-state .ensures)
 
--- src/context.rt:21:1
 returns-2 : tie.Need-returns-2
 returns-2 c = puts-no _ _ (c .if1 .left)
 

@@ -1,19 +1,15 @@
+-- `endpoint::context::word_of` meets its contract. Assumes nothing.
 use native.Mathlib.Nat.{add-zero}
 use borrow.Author.Needs.{needs}
 use Rattle.endpoint.proofs.context.word_of.Statement.{statement}
 use Rattle.endpoint.proofs.context.word_of.Tie as tie
-use Rattle.endpoint.proofs.context.word_of.Reads as reads
-use Rattle.endpoint.proofs.context.word_of.Lts as lts
 
--- src/context.rt:17:18
 add-result : tie.Need-add-result
 add-result c = search needs
 
--- src/context.rt:13:1
 returns : tie.Need-returns
 returns c = simp (c .before .if1 .taken)
 
--- src/context.rt:13:1
 returns-2 : tie.Need-returns-2
 returns-2 c = simp (c .if1 .left, add-zero)
 

@@ -1,21 +1,16 @@
+-- `endpoint::record::misaligned` meets its contract. Assumes nothing.
 use mathlib.Core.Path.{sym, _∙_}
-use Rattle.endpoint.proofs.StepLaws.{judged-place, other-place}
 use borrow.Author.Needs.{needs}
+use Rattle.endpoint.proofs.StepLaws.{judged-place, other-place}
 use Rattle.endpoint.proofs.record.misaligned.Statement.{statement}
 use Rattle.endpoint.proofs.record.misaligned.Tie as tie
-use Rattle.endpoint.proofs.record.misaligned.Reads as reads
-use Rattle.endpoint.proofs.record.misaligned.Lts as lts
-use Rattle.endpoint.proofs.record.takes.Reads as takes-reads
 
--- src/record.rt:29:8
 takes-requires : tie.Need-takes-requires
 takes-requires c κs = search needs
 
--- src/record.rt:30:9
 returns : tie.Need-returns
 returns c = let a = c .before .before .before .args in judged-place (a .row .takes) (a .report .given) (sym (c .before .before .takes .ensures) ∙ c .before .if1 .taken)
 
--- src/record.rt:26:1
 returns-2 : tie.Need-returns-2
 returns-2 c = let a = c .before .before .args in other-place (a .row .takes) (a .report .given) _ (sym (c .before .takes .ensures) ∙ c .if1 .left)
 

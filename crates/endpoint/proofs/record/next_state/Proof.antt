@@ -1,24 +1,18 @@
+-- `endpoint::record::next_state` meets its contract. Assumes nothing.
 use mathlib.Core.Path.{sym, _∙_}
 use borrow.Author.Needs.{needs}
 use Rattle.endpoint.proofs.record.next_state.Statement.{statement}
 use Rattle.endpoint.proofs.record.next_state.Tie as tie
-use Rattle.endpoint.proofs.record.next_state.Reads as reads
-use Rattle.endpoint.proofs.record.next_state.Lts as lts
-use Rattle.endpoint.proofs.record.submits.Reads as submits-reads
 
--- src/record.rt:38:8
 submits-requires : tie.Need-submits-requires
 submits-requires c κs = search needs
 
--- src/record.rt:39:9
 returns : tie.Need-returns
 returns c = simp (sym (c .before .submits .ensures) ∙ c .if1 .taken)
 
--- src/record.rt:42:9
 returns-2 : tie.Need-returns-2
 returns-2 c = simp (sym (c .before .before .submits .ensures) ∙ c .before .if1 .left, c .if2 .taken)
 
--- src/record.rt:35:1
 returns-3 : tie.Need-returns-3
 returns-3 c = simp (sym (c .before .before .submits .ensures) ∙ c .before .if1 .left, c .if2 .left)
 

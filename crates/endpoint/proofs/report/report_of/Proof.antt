@@ -1,89 +1,67 @@
+-- `endpoint::report::report_of` meets its contract. Assumes nothing.
 use mathlib.Core.Path.{sym, ap}
-use Rattle.definition.specs.Steps.{reportOf}
 use borrow.Author.Needs.{needs}
+use Rattle.definition.specs.Steps.{reportOf}
 use Rattle.endpoint.proofs.report.report_of.Statement.{statement}
 use Rattle.endpoint.proofs.report.report_of.Tie as tie
-use Rattle.endpoint.proofs.report.report_of.Reads as reads
-use Rattle.endpoint.proofs.report.report_of.Lts as lts
-use Rattle.endpoint.proofs.report.given_by.Reads as given-by-reads
 
--- src/report.rt:36:25
 enum-known-input : tie.Need-enum-known-input
 enum-known-input c = search needs
 
--- src/report.rt:42:24
 enum-told : tie.Need-enum-told
 enum-told c = search needs
 
--- src/report.rt:43:25
 enum-told-2 : tie.Need-enum-told-2
 enum-told-2 c = search needs
 
--- src/report.rt:44:27
 enum-known-input-2 : tie.Need-enum-known-input-2
 enum-known-input-2 c = search needs
 
--- src/report.rt:50:29
 enum-told-3 : tie.Need-enum-told-3
 enum-told-3 c = search needs
 
--- src/report.rt:56:19
 enum-known-input-3 : tie.Need-enum-known-input-3
 enum-known-input-3 c = search needs
 
--- src/report.rt:62:22
 enum-known-input-4 : tie.Need-enum-known-input-4
 enum-known-input-4 c = search needs
 
--- src/report.rt:62:28
 given-by-requires : tie.Need-given-by-requires
 given-by-requires c κs = search needs
 
--- src/report.rt:63:33
 enum-known-input-5 : tie.Need-enum-known-input-5
 enum-known-input-5 c = search needs
 
--- src/report.rt:63:39
 given-by-requires-2 : tie.Need-given-by-requires-2
 given-by-requires-2 c κs = search needs
 
--- src/report.rt:64:28
 enum-told-4 : tie.Need-enum-told-4
 enum-told-4 c = search needs
 
--- src/report.rt:32:1
 returns : tie.Need-returns
 returns c = sym (ap reportOf (c .before .input .given .1))
 
--- src/report.rt:32:1
 returns-2 : tie.Need-returns-2
 returns-2 c = sym (ap reportOf (c .enum-told .given .1))
 
--- src/report.rt:32:1
 returns-3 : tie.Need-returns-3
 returns-3 c = sym (ap reportOf (c .enum-told2 .given .1))
 
--- src/report.rt:32:1
 returns-4 : tie.Need-returns-4
 returns-4 c = sym (ap reportOf (c .before .input2 .given .1))
 
--- src/report.rt:32:1
 returns-5 : tie.Need-returns-5
 returns-5 c = sym (ap reportOf (c .enum-told3 .given .1))
 
--- src/report.rt:32:1
 returns-6 : tie.Need-returns-6
 returns-6 c = sym (ap reportOf (c .before .input3 .given .1))
 
--- src/report.rt:32:1
 returns-7 : tie.Need-returns-7
 returns-7 c = search needs
 
--- src/report.rt:32:1
 returns-8 : tie.Need-returns-8
 returns-8 c = search needs
 
--- src/report.rt:32:1
 returns-9 : tie.Need-returns-9
 returns-9 c = sym (ap reportOf (c .enum-told4 .given .1))
 
