@@ -1,7 +1,7 @@
 // Address Device (xHCI 4.6.5).
-use contexts::Checked;
 use crate::outcome;
 use crate::outcome::Tally;
+use contexts::Checked;
 use definition::Outcome;
 use definition::Slot;
 use definition::SlotState;
@@ -9,7 +9,15 @@ use definition::Table;
 use guest::Located;
 
 // The slot context and endpoint 1's, at `from`, are copied to `base`; the slot state byte is stored between; endpoint 1 is launched.
-fn copy_contexts(t: Table, mem: &mut [u8], id: u64, from: usize, slot: Slot, terminated: u64, stored: u64) -> Outcome {
+fn copy_contexts(
+    t: Table,
+    mem: &mut [u8],
+    id: u64,
+    from: usize,
+    slot: Slot,
+    terminated: u64,
+    stored: u64,
+) -> Outcome {
     let base = slot.base;
     let state = slot.state;
     let context = guest::context::read_context(mem, from);
@@ -34,13 +42,21 @@ fn copy_contexts(t: Table, mem: &mut [u8], id: u64, from: usize, slot: Slot, ter
 }
 
 // Enabled: the base is read from the DCBAA entry.
-fn first_address(t: Table, mem: &mut [u8], id: u64, slot: Slot, pointer: u64, next: SlotState) -> Outcome {
+fn first_address(
+    t: Table,
+    mem: &mut [u8],
+    id: u64,
+    slot: Slot,
+    pointer: u64,
+    next: SlotState,
+) -> Outcome {
     let length = mem.len() as u64;
     let Located::At(at) = guest::address::locate(slot.entry, 8, length) else {
         return scan::refused(t, 193);
     };
     let base = guest::words::read_u64(mem, at);
-    let Located::At(from) = guest::address::locate(guest::address::plus(pointer, 32), 64, length) else {
+    let Located::At(from) = guest::address::locate(guest::address::plus(pointer, 32), 64, length)
+    else {
         return scan::refused(t, 193);
     };
     let Located::At(_) = guest::address::locate(base, 64, length) else {
@@ -58,7 +74,8 @@ fn first_address(t: Table, mem: &mut [u8], id: u64, slot: Slot, pointer: u64, ne
 fn second_address(t: Table, mem: &mut [u8], id: u64, slot: Slot, pointer: u64) -> Outcome {
     let length = mem.len() as u64;
     let base = slot.base;
-    let Located::At(from) = guest::address::locate(guest::address::plus(pointer, 32), 64, length) else {
+    let Located::At(from) = guest::address::locate(guest::address::plus(pointer, 32), 64, length)
+    else {
         return scan::refused(t, 193);
     };
     let k = ((id - 1) * 31) as usize;
@@ -76,7 +93,14 @@ fn second_address(t: Table, mem: &mut [u8], id: u64, slot: Slot, pointer: u64) -
 }
 
 // The context check comes first, then the state.
-pub fn address_device(t: Table, mem: &mut [u8], id: u64, slot: Slot, pointer: u64, bsr: bool) -> Outcome {
+pub fn address_device(
+    t: Table,
+    mem: &mut [u8],
+    id: u64,
+    slot: Slot,
+    pointer: u64,
+    bsr: bool,
+) -> Outcome {
     let checked = contexts::context_check(mem, pointer);
     if let Checked::Refused(code) = checked {
         return scan::refused(t, code);

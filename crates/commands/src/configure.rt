@@ -1,8 +1,8 @@
 // Configure Endpoint (xHCI 4.6.6).
-use contexts::Checked;
 use crate::device;
 use crate::outcome;
 use crate::outcome::Tally;
+use contexts::Checked;
 use definition::Outcome;
 use definition::Slot;
 use definition::SlotState;
@@ -10,7 +10,15 @@ use definition::Table;
 use guest::Located;
 
 // All drops, then all adds, then the slot state byte. Every range is known to lie in memory.
-fn carry_out(t: Table, mem: &mut [u8], id: u64, slot: Slot, pointer: u64, drops: u32, adds: u32) -> Outcome {
+fn carry_out(
+    t: Table,
+    mem: &mut [u8],
+    id: u64,
+    slot: Slot,
+    pointer: u64,
+    drops: u32,
+    adds: u32,
+) -> Outcome {
     let base = slot.base;
     let w = walks::terminate_flagged(t, mem, id, base, drops);
     let v = walks::add_flagged(w.table, mem, id, pointer, base, adds);
@@ -47,7 +55,14 @@ fn reconfigure(t: Table, mem: &mut [u8], id: u64, slot: Slot, pointer: u64) -> O
 }
 
 // DC=1 terminates endpoints 2 to 31, and does not use the pointer.
-pub fn configure_endpoint(t: Table, mem: &mut [u8], id: u64, slot: Slot, pointer: u64, dc: bool) -> Outcome {
+pub fn configure_endpoint(
+    t: Table,
+    mem: &mut [u8],
+    id: u64,
+    slot: Slot,
+    pointer: u64,
+    dc: bool,
+) -> Outcome {
     let state = slot.state;
     if !device::is_settled(state) {
         return scan::refused(t, 19);

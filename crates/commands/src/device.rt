@@ -1,7 +1,7 @@
 // Disable Slot, Evaluate Context and Reset Device (xHCI 4.6.4, 4.6.7, 4.6.11).
-use contexts::Checked;
 use crate::outcome;
 use crate::outcome::Tally;
+use contexts::Checked;
 use definition::Outcome;
 use definition::Slot;
 use definition::SlotState;

@@ -3,6 +3,6 @@
 pub mod address;
 pub mod configure;
 pub mod device;
+mod outcome;
 pub mod reach;
 pub mod registers;
-mod outcome;

@@ -61,8 +61,14 @@ pub fn store_slot_state(mem: &mut [u8], base: u64, state: SlotState)
 }
 
 // Slot id goes to its next state: the slot state byte is stored, last of all.
-pub fn finish(t: Table, mem: &mut [u8], id: u64, slot: Slot, next: SlotState, tally: Tally) -> Outcome
-{
+pub fn finish(
+    t: Table,
+    mem: &mut [u8],
+    id: u64,
+    slot: Slot,
+    next: SlotState,
+    tally: Tally,
+) -> Outcome {
     let base = slot.base;
     store_slot_state(mem, base, next);
     let mut u = t;

@@ -10,7 +10,15 @@ fn bit(b: bool) -> u64 {
 }
 
 // Endpoint i of the slot takes the input. `absent` is the code where the endpoint is absent or disabled: 12, or 196 for a host event.
-pub fn reach(t: Table, mem: &mut [u8], id: u64, slot: Slot, i: u64, input: Input, absent: u64) -> Outcome {
+pub fn reach(
+    t: Table,
+    mem: &mut [u8],
+    id: u64,
+    slot: Slot,
+    i: u64,
+    input: Input,
+    absent: u64,
+) -> Outcome {
     if i == 0 {
         return scan::refused(t, absent);
     }

@@ -11,13 +11,13 @@ use Rattle.guest.specs.Bytes.{number, _⊕_, inside, located, bit, setBits, typ
 use Rattle.guest.specs.Prog.{Mem, Prog, done, block, run, Ends, Result, ok, refuse, andThen}
 use Rattle.guest.specs.declared.Located.{Located}
 use Rattle.guest.specs.declared.Located.the-variants.{At, Outside}
-use Rattle.guest.proofs.RunLaws.{run-done, run-get, inside-yes, inside-no, need-yes, need-no, passes, refuses}
+use Rattle.guest.proofs.RunLaws.{run-done, run-get, inside-yes, inside-no, need-yes, need-no, passes, refuses, located-at, located-outside, ends-test}
 use Rattle.guest.proofs.LoopLaws.{Checking, checking-begins, checking-goes, checking-skips, checking-refuses, checking-ends}
 use Rattle.definition.specs.Commands.{usbTypes, checkType, contextCheck}
 use Rattle.contexts.specs.declared.Checked.{Checked}
 use Rattle.contexts.specs.declared.Checked.the-variants.{Adds, Refused}
 use Rattle.contexts.specs.Checks.{Checks, Judges, ChecksTypes}
-use Rattle.contexts.proofs.GuestLaws.{located-at, located-outside, flag-set, flag-clear, flags-done, ends-test}
+use Rattle.guest.proofs.BitLaws.{flag-set, flag-clear, flags-done}
 
 -- ---- the accepted types
 

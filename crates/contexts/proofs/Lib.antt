@@ -1,3 +1,2 @@
-pub mod GuestLaws
 pub mod CheckLaws
 pub mod RangeLaws

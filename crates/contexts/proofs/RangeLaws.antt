@@ -7,11 +7,12 @@ use native.Mathlib.Omega.{arith}
 use Rattle.guest.specs.Bytes.{_⊕_, inside, bit, setBits}
 use Rattle.guest.specs.Prog.{Mem, Prog, run, Ends, Result, ok, refuse, need, every}
 use Rattle.guest.proofs.ListLaws.{All, all-map, all-in, count-in, those-in, and-left, and-right, all-passes}
-use Rattle.guest.proofs.RunLaws.{inside-yes}
-use Rattle.guest.proofs.LoopLaws.{Testing, testing-begins, testing-goes, testing-ends, testing-fails}
+use Rattle.guest.proofs.RunLaws.{inside-yes, ends-both}
+use Rattle.guest.proofs.LoopLaws.{Testing, testing-begins, testing-goes, testing-ends, testing-fails, testing-skips}
 use Rattle.definition.specs.Commands.{needContexts}
 use Rattle.contexts.specs.Ranges.{bothInside, rangesInside}
-use Rattle.contexts.proofs.GuestLaws.{flag-set, flag-clear, flags-done, testing-skips, ends-both, tests-pass, tests-refuse}
+use Rattle.guest.proofs.BitLaws.{flag-set, flag-clear, flags-done}
+use Rattle.guest.proofs.EveryLaws.{tests-pass, tests-refuse}
 
 -- ---- the contexts of one endpoint
 

@@ -14,7 +14,7 @@ use Rattle.definition.specs.Table.{slotOf}
 use Rattle.definition.specs.Walks.{Walk, begin, terminate, terminateAll, copyLaunch}
 use Rattle.definition.specs.Commands.{Told, contextCheck, copyContexts, Plan, plan, carryOut, addressDevice, finish, deconfigure, needContexts, dropAndAdd, reconfigure, configureEndpoint, evaluateContext, resetDevice}
 use Rattle.definition.proofs.TableLaws.{IsSlot}
-use Rattle.definition.proofs.FormedFacts.{Proper, proper-length, zero-ok, Zeroes, InUse, Fits, slot-fits}
+use Rattle.definition.proofs.FormedFacts.{Proper, formed-length, zero-ok, Zeroes, InUse, Fits, slot-fits}
 use Rattle.definition.proofs.FormedTables.{closes-slot}
 use Rattle.definition.proofs.FormedWalks.{Kept, began, began-used, kept-used, terminate-kept, launch-kept, First, Second, terminates-kept, adds-kept}
 use Rattle.definition.proofs.FormedHeads.{Fine, slot-fine, settled-slot-fine, Shows, shows-ok, shows-refuse, Plain, context-plain}
@@ -35,7 +35,7 @@ copy-fine : (t : Table) (id c base : ℕ) (next : SlotState) (dcbaaEntry : ℕ) 
 unfolding copyContexts Gives
 copy-fine t id c base next dcbaaEntry w p s h l k = λ context.
     gives-bind (λ v. Kept t id base First (v .table)) Fine (copyLaunch id base (c + 32) 1 w) _
-    (launch-kept t id base s Any First 1 (omega arith, omega arith) (λ j f q o r. absurd (q r)) (omega (arith, proper-length p)) (λ e d q. d) (c + 32) w k)
+    (launch-kept t id base s Any First 1 (omega arith, omega arith) (λ j f q o r. absurd (q r)) (omega (arith, formed-length _ (p .formed))) (λ e d q. d) (c + 32) w k)
     (λ v g. (λ q. omega arith, closes-slot p s (g .beside) _ (l _ (v .table) id (kept-used h g))))
 
 -- each plan that the state allows

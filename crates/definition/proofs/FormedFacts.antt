@@ -27,17 +27,18 @@ pub record Proper (t : Table) : Type 0 where
 abbrev limits : Table → Bool
 limits t = leb (t .limit) 16 && leb (t .length) 1073741824
 
-pub proper-limit : {t : Table} → Proper t → t .limit ≤ 16
+-- a well formed table's limit, length and slots
+pub formed-limit : (t : Table) → wellFormed t ≡ true → t .limit ≤ 16
 unfolding wellFormed
-proper-limit {t} p = leb-true _ _ (and-left _ _ (and-left (limits t) _ (p .formed)))
+formed-limit t h = leb-true _ _ (and-left _ _ (and-left (limits t) _ h))
 
-pub proper-length : {t : Table} → Proper t → t .length ≤ 1073741824
+pub formed-length : (t : Table) → wellFormed t ≡ true → t .length ≤ 1073741824
 unfolding wellFormed
-proper-length {t} p = leb-true _ _ (and-right (leb (t .limit) 16) _ (and-left (limits t) _ (p .formed)))
+formed-length t h = leb-true _ _ (and-right (leb (t .limit) 16) _ (and-left (limits t) _ h))
 
-proper-slot : {t : Table} → Proper t → (id : ℕ) → IsSlot id → slotOk t id ≡ true
+formed-slot : (t : Table) → wellFormed t ≡ true → (id : ℕ) → IsSlot id → slotOk t id ≡ true
 unfolding wellFormed
-proper-slot {t} p id s = all-at (slotOk t) 16 1 (and-right (limits t) _ (p .formed)) id (s .0) (omega arith)
+formed-slot t h id s = all-at (slotOk t) 16 1 (and-right (limits t) _ h) id (s .0) (omega arith)
 
 -- ---- a record
 
@@ -142,10 +143,13 @@ is-fit Default s t id f = is-used t id (s .base) f
 is-fit Addressed s t id f = is-used t id (s .base) f
 is-fit Configured s t id f = is-used t id (s .base) f
 
--- a proper table's slots fit
-pub slot-fits : {t : Table} → Proper t → (id : ℕ) → IsSlot id → Fits (slotOf t id .state) (slotOf t id) t id
+-- a well formed table's slots fit
+pub formed-fits : (t : Table) → wellFormed t ≡ true → (id : ℕ) → IsSlot id → Fits (slotOf t id .state) (slotOf t id) t id
 unfolding slotOk
-slot-fits {t} p id s = fits-in (slotOf t id .state) (slotOf t id) t id (proper-slot p id s)
+formed-fits t h id s = fits-in (slotOf t id .state) (slotOf t id) t id (formed-slot t h id s)
+
+pub slot-fits : {t : Table} → Proper t → (id : ℕ) → IsSlot id → Fits (slotOf t id .state) (slotOf t id) t id
+slot-fits {t} p id s = formed-fits t (p .formed) id s
 
 -- a table whose slots fit is proper
 pub is-proper : (t : Table) → Sized t → t .limit ≤ 16 → t .length ≤ 1073741824

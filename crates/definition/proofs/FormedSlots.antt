@@ -18,7 +18,7 @@ use Rattle.definition.specs.Steps.{column, step}
 use Rattle.definition.specs.Walks.{begin, terminateAll}
 use Rattle.definition.specs.Commands.{setLimit, setDcbaap, enableOne, enableSlot, freeing, disableSlot, resetAll, endpointCall}
 use Rattle.definition.proofs.TableLaws.{IsSlot, IsEndpoint, slot-endpoint}
-use Rattle.definition.proofs.FormedFacts.{clash, Proper, proper-limit, zero-disabled, ok-enabled, enabled-ok, Zeroes, InUse, Fits, slot-fits, fits-serve}
+use Rattle.definition.proofs.FormedFacts.{clash, Proper, formed-limit, zero-disabled, ok-enabled, enabled-ok, Zeroes, InUse, Fits, slot-fits, fits-serve}
 use Rattle.definition.proofs.FormedTables.{beside-same, beside-endpoint, closes, closes-slot, registers-proper}
 use Rattle.definition.proofs.FormedWalks.{Kept, kept-stored, began, began-used, kept-used, First, Cleared, clears}
 use Rattle.definition.proofs.FormedSteps.{Live, Lively, step-lively}
@@ -33,7 +33,7 @@ set-limit-fine n t p =
 
 pub set-dcbaap-fine : (a : ℕ) (t : Table) → Proper t → Gives Fine (setDcbaap a t)
 unfolding setDcbaap Gives
-set-dcbaap-fine a t p = formed-fine t _ p (λ q. omega arith, registers-proper p (t .limit) a (proper-limit p))
+set-dcbaap-fine a t p = formed-fine t _ p (λ q. omega arith, registers-proper p (t .limit) a (formed-limit _ (p .formed)))
 
 -- a slot whose state is Free has no endpoint
 free-zeroes : (st : SlotState) (s : Slot) (t : Table) (id : ℕ) → eqb (slotNumber st) 0 ≡ true → Fits st s t id → Zeroes id t
@@ -56,7 +56,7 @@ enable-fine t p =
     formed-fine t _ p
     (enable-one-fine t p _
     (those-all IsSlot (λ id. isFree (slotOf t id)) (count (t .limit) 1)
-    (count-all IsSlot (t .limit) 1 (λ id l h. (l, omega (arith, proper-limit p))))))
+    (count-all IsSlot (t .limit) 1 (λ id l h. (l, omega (arith, formed-limit _ (p .formed)))))))
 
 -- ---- Disable Slot, and reset of all slots
 

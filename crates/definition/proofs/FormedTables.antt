@@ -7,7 +7,7 @@ use native.Mathlib.Decide.{ℕ-discrete}
 use Rattle.definition.specs.Types.{Endpoint, SlotState, Free, Enabled, Default, Addressed, Configured, Slot, Table}
 use Rattle.definition.specs.Table.{endpointOf, slotOf, withEndpoint, withSlot, withRegisters}
 use Rattle.definition.proofs.TableLaws.{Sized, IsSlot, IsEndpoint, sized-endpoint, sized-slot, sized-registers, endpoint-elsewhere, endpoint-slot, endpoint-registers, slot-here, slot-other, slot-endpoint, slot-registers}
-use Rattle.definition.proofs.FormedFacts.{Proper, proper-limit, proper-length, Zeroes, InUse, Fits, slot-fits, is-proper}
+use Rattle.definition.proofs.FormedFacts.{Proper, formed-limit, formed-length, Zeroes, InUse, Fits, slot-fits, is-proper}
 
 -- ---- what a slot's facts depend on
 
@@ -76,7 +76,7 @@ beside-slot {id} {t} {u} b h s =
 
 -- the other slots fit as before, so it is enough that this one does
 pub closes : {id : ℕ} {t u : Table} → Proper t → Beside id t u → Fits (slotOf u id .state) (slotOf u id) u id → Proper u
-closes {id} {t} {u} p b f = is-proper u (b .sized) (rw (b .limit) (proper-limit p)) (rw (b .length) (proper-length p)) (λ j s. by j s (ℕ-discrete j id))
+closes {id} {t} {u} p b f = is-proper u (b .sized) (rw (b .limit) (formed-limit _ (p .formed))) (rw (b .length) (formed-length _ (p .formed))) (λ j s. by j s (ℕ-discrete j id))
   where
     by : (j : ℕ) → IsSlot j → Dec (j ≡ id) → Fits (slotOf u j .state) (slotOf u j) u j
     by j s (yes e) = rw e f
@@ -96,6 +96,6 @@ closes-slot {id} {t} {u} p h b s f =
 pub registers-proper : {t : Table} → Proper t → (limit dcbaap : ℕ) → limit ≤ 16 → Proper (withRegisters t limit dcbaap)
 unfolding withRegisters
 registers-proper {t} p limit dcbaap h =
-    is-proper (withRegisters t limit dcbaap) (sized-registers t limit dcbaap (p .sized)) h (proper-length p)
+    is-proper (withRegisters t limit dcbaap) (sized-registers t limit dcbaap (p .sized)) h (formed-length _ (p .formed))
     (λ id s. subst (λ (r : Slot). Fits (r .state) r (withRegisters t limit dcbaap) id) (sym (slot-registers t limit dcbaap id))
     (fits-alike id t (withRegisters t limit dcbaap) (λ i n. endpoint-registers t limit dcbaap id i) (slotOf t id .state) (slotOf t id) refl (slot-fits p id s)))

@@ -1,4 +1,3 @@
 pub mod TableLaws
 pub mod StepLaws
 pub mod PromiseLaws
-pub mod KeepLaws

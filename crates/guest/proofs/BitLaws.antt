@@ -1,17 +1,33 @@
 -- Laws of flag bits: those of a list, counted lists, the lowest set bit.
 -- Assumes nothing.
 use mathlib.Core.Path.{_≡_, refl, sym, ap, ap₂, _∙_}
-use mathlib.Core.Bool.{cond}
+use mathlib.Core.Bool.{cond, true, false}
 use mathlib.Core.List.{List, [], _∷_}
 use mathlib.Core.Logic.{_⊎_, inl, inr, ⊎-elim}
-use Prim.Native.Nat.{ℕ, zero, suc, _+_, _-_, _*_, _/_, _%_, _^_, _<_}
+use Prim.Native.Nat.{ℕ, zero, suc, _+_, _-_, _*_, _/_, _%_, _^_, _≤_, _<_}
 use native.Mathlib.Nat.{pow-suc, add-zero, add-suc, suc-add, zero-add, zero-min, div-div-eq-div-mul, div-one}
 use native.Mathlib.Numerals.{add-one}
 use native.Mathlib.Omega.{arith}
+use Rattle.guest.proofs.ListLaws.{count-first, count-none, those-yes, those-no}
 use lib.Bits.{bitAnd, and-step, and-self}
 use lib.Count.{trailingZeros}
 use lib.Dec.{eqb}
-use Rattle.guest.specs.Bytes.{count, those, setBits}
+use Rattle.guest.specs.Bytes.{bit, count, those, setBits}
+
+-- ---- a loop that looks at each flag from i up to `end`
+
+-- i comes first where its flag is set
+pub flag-set : (end i x : ℕ) → i < end → bit x i ≡ true → setBits (end - i) i x ≡ i ∷ setBits (end - (i + 1)) (i + 1) x
+flag-set end i x h e = ap (those (bit x)) (count-first end i h) ∙ those-yes (bit x) i _ e
+
+-- it is passed over where its flag is clear
+pub flag-clear : (end i x : ℕ) → i < end → bit x i ≡ false → setBits (end - i) i x ≡ setBits (end - (i + 1)) (i + 1) x
+flag-clear end i x h e = ap (those (bit x)) (count-first end i h) ∙ those-no (bit x) i _ e
+
+-- none is left
+pub flags-done : (end i x : ℕ) → end ≤ i → setBits (end - i) i x ≡ []
+unfolding those
+flags-done end i x h = ap (those (bit x)) (count-none (end - i) i (omega arith))
 
 -- ---- the set bits, lowest first
 

@@ -2,17 +2,17 @@
 -- Assumes nothing.
 use mathlib.Core.Path.{_≡_, refl, sym, _∙_, subst}
 use mathlib.Core.Logic.{_⊎_, inl, inr, ⊎-elim}
-use mathlib.Core.Bool.{Bool, true, false, true≢false}
+use mathlib.Core.Bool.{Bool, true, false, cond, true≢false, _&&_}
 use mathlib.Core.List.{List, [], _∷_}
 use Prim.Native.Nat.{ℕ, zero, suc, _+_, _≤_, _<_}
 use native.Mathlib.Omega.{arith}
 use native.Mathlib.Decide.{ℕ-discrete}
 use lib.ListN.{length}
 use Rattle.guest.specs.Bytes.{count, those}
-use Rattle.guest.specs.Prog.{Mem, Prog, ran, run, Ends, Reads, each, Result, ok, andThen, every}
+use Rattle.guest.specs.Prog.{Mem, Prog, ran, run, Ends, Reads, each, Result, ok, refuse, andThen, every, all}
 use Rattle.guest.specs.Forms.{Quiet}
-use Rattle.guest.proofs.ListLaws.{All, none, more, In, here, there, those-yes, those-no}
-use Rattle.guest.proofs.RunLaws.{passes, then-value}
+use Rattle.guest.proofs.ListLaws.{All, none, more, In, here, there, those-yes, those-no, and-left, and-right}
+use Rattle.guest.proofs.RunLaws.{passes, refuses, then-value}
 use Rattle.guest.proofs.ReadLaws.{run-length, reads-done, reads-bind, reads-then, bind-reads, Seen, seen-first, seen-bind, seen-then}
 use Rattle.guest.proofs.FormLaws.{quiet-stores, quiet-run}
 
@@ -122,6 +122,30 @@ module _ (f : ℕ → Prog (Result Unit)) (m : Mem) (quiet : (i : ℕ) → Quiet
       let q = quiet-run (f i) m 0 (quiet i) in
       let rest = every-value is (rw (q .0, q .1) at (one .2)) in
       (more (one .1) (rest .0), rest .1)
+
+-- each check passes where its test does, and is refused with the code c where it does not
+module _ (f : ℕ → Prog (Result Unit)) (t : ℕ → Bool) (c : ℕ) (m : Mem) (s : ℕ) (one : (i : ℕ) → Ends (f i) m s (cond (t i) (ok tt) (refuse c)) m s) {A : Type 0} (p : Prog (Result A)) where
+  at-true : (i : ℕ) → t i ≡ true → Ends (f i) m s (ok tt) m s
+  at-true i e = rw e at (one i)
+
+  at-false : (i : ℕ) → t i ≡ false → Ends (f i) m s (refuse c) m s
+  at-false i e = rw e at (one i)
+
+  -- where all pass, p is left
+  pub tests-pass : (is : List ℕ) → all is t ≡ true → run (every is f p) m s ≡ run p m s
+  unfolding all every
+  tests-pass [] e = refl
+  tests-pass (i ∷ is) e = passes (λ _. every is f p) (at-true i (and-left (t i) (all is t) e)) ∙ tests-pass is (and-right (t i) (all is t) e)
+
+  -- where one does not, the whole is refused
+  pub tests-refuse : (is : List ℕ) → all is t ≡ false → Ends (every is f p) m s (refuse c) m s
+  unfolding all every
+  tests-refuse [] e = absurd (true≢false e)
+  tests-refuse (i ∷ is) e = by (t i) refl e (tests-refuse is)
+    where
+      by : (b : Bool) → t i ≡ b → b && all is t ≡ false → (all is t ≡ false → Ends (every is f p) m s (refuse c) m s) → Ends (every (i ∷ is) f p) m s (refuse c) m s
+      by true d e rest = record { ends = passes (λ _. every is f p) (at-true i d) ∙ rest e .ends }
+      by false d e rest = refuses (λ _. every is f p) (at-false i d)
 
 -- ---- a walk
 

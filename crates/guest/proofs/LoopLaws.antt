@@ -83,6 +83,10 @@ unfolding all
 testing-goes f {i = i} {is = is} {good = good} g e now d =
     record { rest = rw d (and-assoc good (f i) (all is f)) ∙ sym (ap (λ (l : List ℕ). good && all l f) e) ∙ g .rest }
 
+-- a turn that tests nothing
+pub testing-skips : (f : ℕ → Bool) {is₀ js is : List ℕ} {good : Bool} → Testing f is₀ js good → js ≡ is → Testing f is₀ is good
+testing-skips f {good = good} g e = record { rest = ap (λ (l : List ℕ). good && all l f) (sym e) ∙ g .rest }
+
 pub testing-ends : (f : ℕ → Bool) {is₀ is : List ℕ} {good : Bool} → Testing f is₀ is good → is ≡ [] → good ≡ all is₀ f
 unfolding all
 testing-ends f {good = good} g e = sym (and-true good) ∙ sym (ap (λ (l : List ℕ). good && all l f) e) ∙ g .rest

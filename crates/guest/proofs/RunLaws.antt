@@ -2,14 +2,15 @@
 -- Assumes nothing.
 use mathlib.Core.Path.{_≡_, refl, sym, ap, _∙_}
 use mathlib.Core.Logic.{_⊎_, inl, inr, ⊎-elim}
-use mathlib.Core.Bool.{Bool, true, false}
+use mathlib.Core.Bool.{Bool, true, false, cond, _&&_}
 use mathlib.Core.List.{List}
 use Prim.Native.Nat.{ℕ, _+_, _≤_, _<_}
 use native.Mathlib.Nat.{add-zero, zero-add, add-assoc}
 use native.Mathlib.Omega.{arith}
 use borrow.Author.Tests.{leb-true, leb-false, le-leb, lt-leb}
 use lib.ListN.{length}
-use Rattle.guest.specs.Bytes.{inside}
+use Rattle.guest.specs.Bytes.{inside, located}
+use Rattle.guest.specs.declared.Located.the-variants.{At, Outside}
 use Rattle.guest.specs.Prog.{Mem, Prog, done, get, put, block, splice, Ran, ran, run, Ends, choose, bind, Result, ok, refuse, need, passed, andThen}
 
 -- a refusal is no value
@@ -72,6 +73,29 @@ need-yes len a n p h = choose-yes (inside len a n) p (done (refuse 193)) (is-ins
 pub need-no : {A : Type 0} (len a n : ℕ) (p : Prog (Result A)) → len < a + n → need len a n p ≡ done (refuse 193)
 unfolding need
 need-no len a n p h = choose-no (inside len a n) p (done (refuse 193)) (is-outside len a n h)
+
+-- ---- what `locate` tells of a range
+
+module _ (len a n : ℕ) where
+  -- it stands at its address, and lies in memory
+  pub located-at : {i : ℕ} → located len a n ≡ At i → (i ≡ a) × (inside len a n ≡ true)
+  located-at {i} e = by (inside len a n) refl e
+    where
+      by : (b : Bool) → inside len a n ≡ b → cond b (At a) Outside ≡ At i → (i ≡ a) × (inside len a n ≡ true)
+      by true h e = (cc, h)
+      by false h e = let z : _≡_ {A = ℕ} 0 1 = cc in absurd (omega arith)
+
+  -- so the index can be read at
+  pub located-fits : {i : ℕ} → located len a n ≡ At i → i + n ≤ len
+  located-fits e = let p = located-at e in omega (arith, p .0, inside-yes len a n (p .1))
+
+  -- it does not lie in memory
+  pub located-outside : located len a n ≡ Outside → inside len a n ≡ false
+  located-outside e = by (inside len a n) refl e
+    where
+      by : (b : Bool) → inside len a n ≡ b → cond b (At a) Outside ≡ Outside → inside len a n ≡ false
+      by true h e = let z : _≡_ {A = ℕ} 0 1 = cc in absurd (omega arith)
+      by false h e = h
 
 -- ---- one program and then another
 
@@ -149,3 +173,21 @@ one-end {A} d e =
 pub ends-from : {A : Type 0} {p : Prog A} {m : Mem} {x : A} {m′ : Mem} {n : ℕ} → Ends p m 0 x m′ n → (s : ℕ) → Ends p m s x m′ (s + n)
 ends-from {A} {p} {m} e s =
     record { ends = run-from p m s ∙ ap (λ (r : Ran A). ran (r .value) (r .memory) (s + r .stored)) (e .ends) }
+
+-- a program and then a value made of what it gives
+pub ends-value : {A B : Type 0} {p : Prog A} (f : A → B) {m : Mem} {s : ℕ} {x : A} {m′ : Mem} {s′ : ℕ} → Ends p m s x m′ s′
+    → Ends (bind p λ y. done (f y)) m s (f x) m′ s′
+ends-value f e = record { ends = after (λ y. done (f y)) e ∙ run-done (f _) _ _ }
+
+-- ---- checks that are tests
+
+module _ {A : Type 0} (x y : A) (m : Mem) (s : ℕ) where
+  pub ends-test : (b : Bool) → Ends (choose b (done x) (done y)) m s (cond b x y) m s
+  unfolding choose run
+  ends-test true = record { ends = refl }
+  ends-test false = record { ends = refl }
+
+  pub ends-both : (a b : Bool) → Ends (choose a (choose b (done x) (done y)) (done y)) m s (cond (a && b) x y) m s
+  unfolding choose run
+  ends-both true b = ends-test b
+  ends-both false b = record { ends = refl }

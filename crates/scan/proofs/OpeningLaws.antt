@@ -111,7 +111,7 @@ pub record OnSlot (t : Table) (len id : ℕ) (s : Slot) : Type 0 where
 not-free : (s : Slot) → isFree s ≡ false → s .state ≡ Free → ⊥
 not-free s f e = let z : _≡_ {A = Bool} true false = rw e at f in let y : _≡_ {A = ℕ} 0 1 = cc in omega arith
 
-on-slot : (t : Table) (len id : ℕ) {s : Slot} → Lent t len → lookup t id ≡ Used s → OnSlot t len id s
+pub on-slot : (t : Table) (len id : ℕ) {s : Slot} → Lent t len → lookup t id ≡ Used s → OnSlot t len id s
 unfolding lookup
 on-slot t len id {s} l e = by (leb 1 id && leb id 16 && not (isFree (slotOf t id))) refl e
   where

@@ -22,7 +22,8 @@ use Rattle.endpoint.specs.Promises.{Launches}
 use Rattle.walks.specs.declared.Added.{Added}
 use Rattle.walks.specs.declared.Launched.{Launched}
 use Rattle.walks.specs.Promises.{walk, copyLaunchAt, CopyLaunches, AddsAll}
-use Rattle.walks.proofs.WalkLaws.{ends-then, flag-on, flag-off, flags-none, mask-next}
+use Rattle.walks.proofs.WalkLaws.{ends-then, mask-next}
+use Rattle.guest.proofs.BitLaws.{flag-set, flag-clear, flags-done}
 
 abbrev launched : Endpoint → ℕ → Launched
 launched e port = record { endpoint = e; port = port }
@@ -89,7 +90,7 @@ module _ {id P base adds : ℕ} {t : Table} {m₀ : Mem} {i : ℕ} {u : Table} {
         low = omega (arith, g .low);
         high = omega arith;
         size = n ∙ g .size;
-        loop = λ x. rw one-mul (loop-goes (add id P base) (g .loop x) (flag-on adds 32 i l on) (copy-launch-one id base (P ⊕ 32 * (i + 1)) i (walk u mask x port) d s) n);
+        loop = λ x. rw one-mul (loop-goes (add id P base) (g .loop x) (flag-set 32 i adds l on) (copy-launch-one id base (P ⊕ 32 * (i + 1)) i (walk u mask x port) d s) n);
         fits = mask-next i mask 1 (g .fits) (omega arith);
         byte = d .byte;
         few = omega (arith, g .few);
@@ -103,7 +104,7 @@ module _ {id P base adds : ℕ} {t : Table} {m₀ : Mem} {i : ℕ} {u : Table} {
         low = omega (arith, g .low);
         high = omega arith;
         size = g .size;
-        loop = λ x. loop-skips (add id P base) (g .loop x) (flag-off adds 32 i l off);
+        loop = λ x. loop-skips (add id P base) (g .loop x) (flag-clear 32 i adds l off);
         fits = omega (arith, g .fits);
         byte = g .byte;
         few = omega (arith, g .few);
@@ -116,7 +117,7 @@ unfolding addAll
 adding-ends {id} {P} {base} {adds} {i = i} g e =
     let p : 2 ^ i ≤ 2 ^ 32 = pow-mono {i = i} {j = 32} (g .high) in
     record {
-      ends = λ x. loop-ends (add id P base) (g .loop x) (flags-none adds 32 i e);
+      ends = λ x. loop-ends (add id P base) (g .loop x) (flags-done 32 i adds e);
       few = omega (arith, g .few, g .high);
       fits = omega (arith, g .fits);
       byte = g .byte;

@@ -1,6 +1,6 @@
 -- Laws of the walks: a step of one record is a step of the walk.
 -- Assumes nothing.
-use mathlib.Core.Path.{_≡_, ap, _∙_}
+use mathlib.Core.Path.{_≡_}
 use mathlib.Core.Bool.{Bool, true, false, cond}
 use mathlib.Core.List.{List, [], _∷_}
 use Prim.Native.Nat.{ℕ, zero, suc, _+_, _-_, _*_, _%_, _^_, _≤_, _<_}
@@ -8,15 +8,12 @@ use native.Mathlib.Nat.{one-mul, zero-mul}
 use native.Mathlib.Omega.{arith}
 use lib.ListN.{length}
 use lib.Pow.{pow-pos, pow-mono, pow-lt, pow-add, shl-exact}
-use Rattle.guest.specs.Bytes.{_⊕_, count, those, bit, setBits}
+use Rattle.guest.specs.Bytes.{_⊕_, count}
 use Rattle.guest.specs.Prog.{Mem, Prog, done, bind, Ends}
-use Rattle.guest.proofs.RunLaws.{after, run-done, ends-from}
+use Rattle.guest.proofs.RunLaws.{ends-from, ends-value}
 use Rattle.guest.proofs.LoopLaws.{Loop, loop-begins, loop-goes, loop-skips, loop-ends}
-use Rattle.guest.proofs.ListLaws.{count-first, count-none, those-yes, those-no}
-use Rattle.definition.specs.declared.Endpoint.{Endpoint}
 use Rattle.definition.specs.declared.Table.{Table}
 use Rattle.definition.specs.Table.{isDisabled, endpointOf, withEndpoint}
-use Rattle.definition.specs.Steps.{terminateAt}
 use Rattle.definition.specs.Walks.{Walk, begin, ended, terminate, terminateAll}
 use Rattle.definition.proofs.TableLaws.{endpoint-other}
 use Rattle.endpoint.specs.Promises.{Terminates}
@@ -50,12 +47,7 @@ mask-shift i one l o = shl-exact 1 i 64 (omega arith) (omega arith)
 
 -- ---- from a record to the walk
 
--- a program and then a value made of what it gives
-pub ends-value : {A B : Type 0} {p : Prog A} (f : A → B) {m : Mem} {s : ℕ} {x : A} {m′ : Mem} {s′ : ℕ} → Ends p m s x m′ s′
-    → Ends (bind p λ y. done (f y)) m s (f x) m′ s′
-ends-value f e = record { ends = after (λ y. done (f y)) e ∙ run-done (f _) _ _ }
-
--- .. after s bytes
+-- a program and then a value made of what it gives, after s bytes
 pub ends-then : {A B : Type 0} {p : Prog A} (f : A → B) {m : Mem} {x : A} {m′ : Mem} {n : ℕ} → Ends p m 0 x m′ n → (s : ℕ)
     → Ends (bind p λ y. done (f y)) m s (f x) m′ (s + n)
 ends-then f e s = ends-value f (ends-from e s)
@@ -72,18 +64,6 @@ unfolding terminate
 terminate-one id base i w {r = r} d s =
     let e = endpointOf (w .table) id i in
     rw (← ended-bit (isDisabled e) i (r .stored) (d .count)) (ends-then (λ f. ended id i e f w) (d .ends) s)
-
--- ---- the flags that are left
-
-pub flag-on : (x end i : ℕ) → i < end → bit x i ≡ true → setBits (end - i) i x ≡ i ∷ setBits (end - (i + 1)) (i + 1) x
-flag-on x end i h e = ap (those (bit x)) (count-first end i h) ∙ those-yes (bit x) i _ e
-
-pub flag-off : (x end i : ℕ) → i < end → bit x i ≡ false → setBits (end - i) i x ≡ setBits (end - (i + 1)) (i + 1) x
-flag-off x end i h e = ap (those (bit x)) (count-first end i h) ∙ those-no (bit x) i _ e
-
-pub flags-none : (x end i : ℕ) → end ≤ i → setBits (end - i) i x ≡ []
-unfolding those
-flags-none x end i h = ap (those (bit x)) (count-none (end - i) i (omega arith))
 
 -- ---- terminations on their way
 

@@ -3,7 +3,7 @@ use native.Mathlib.Omega.{arith}
 use mathlib.Core.Path.{sym, _∙_}
 use lib.ListN.{length}
 use borrow.Author.Needs.{needs}
-use Rattle.contexts.proofs.GuestLaws.{located-fits}
+use Rattle.guest.proofs.RunLaws.{located-fits}
 use Rattle.contexts.proofs.CheckLaws.{flags-outside, flags-checked}
 use Rattle.contexts.proofs.context_check.Statement.{statement}
 use Rattle.contexts.proofs.context_check.Tie as tie

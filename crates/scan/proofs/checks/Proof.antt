@@ -18,7 +18,7 @@ judge-requires c κs = search needs
 -- src/lib.rt:104:1
 returns : tie.Need-returns
 unfolding codeFor
-returns c =     rw (c .judge .ensures, c .before .well-formed .ensures)
+returns c = rw (c .judge .ensures, c .before .well-formed .ensures)
 
 pub checks-spec : {M : Type 1} → statement M
 checks-spec = tie.close (tie.spec well-formed-requires judge-requires returns)

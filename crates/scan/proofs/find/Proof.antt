@@ -12,7 +12,7 @@ use Rattle.scan.proofs.records.is_free.Reads as is-free-reads
 -- src/lib.rt:68:9
 returns : tie.Need-returns
 unfolding foundIn
-returns c =     rw (lt-leb 1 (c .before .args .id) (omega arith))
+returns c = rw (lt-leb 1 (c .before .args .id) (omega arith))
 
 -- src/lib.rt:71:9
 returns-2 : tie.Need-returns-2

@@ -39,7 +39,7 @@ element-copy-out-slot c = omega (arith, c .before .loop .inv .low)
 -- src/lib.rt:207:9
 loop2-holds : tie.Need-loop2-holds Inv-loop2 μ-loop2 Inv-loop μ-loop
 unfolding slotOf
-loop2-holds c =     clearing-begins (c .before .before .loop .inv) (omega arith)
+loop2-holds c = clearing-begins (c .before .before .loop .inv) (omega arith)
 
 -- src/lib.rt:208:23
 sub-k : tie.Need-sub-k Inv-loop2 μ-loop2 Inv-loop μ-loop
@@ -128,7 +128,7 @@ loop-less c = omega arith
 -- src/lib.rt:203:5
 loop-again : tie.Need-loop-again Inv-loop2 μ-loop2 Inv-loop μ-loop
 unfolding slotOf withSlot
-loop-again c =     freeing-goes (c .before .before .before .before .loop .inv) (omega arith) (c .before .loop2 .inv) (omega arith)
+loop-again c = freeing-goes (c .before .before .before .before .loop .inv) (omega arith) (c .before .loop2 .inv) (omega arith)
 
 -- src/lib.rt:196:1
 same-length : tie.Need-same-length Inv-loop2 μ-loop2 Inv-loop μ-loop

@@ -4,7 +4,8 @@ use Prim.Native.Nat.{_-_}
 use native.Mathlib.Omega.{arith}
 use Rattle.guest.specs.Bytes.{setBits}
 use Rattle.definition.specs.Table.{endpointOf, withEndpoint}
-use Rattle.walks.proofs.WalkLaws.{flag-on, flag-off, flags-none, Ending, ending-begins, ending-goes, ending-skips, ending-ends}
+use Rattle.walks.proofs.WalkLaws.{Ending, ending-begins, ending-goes, ending-skips, ending-ends}
+use Rattle.guest.proofs.BitLaws.{flag-set, flag-clear, flags-done}
 use Rattle.walks.proofs.terminate_flagged.Statement.{statement}
 use Rattle.walks.proofs.terminate_flagged.Tie as tie
 use Rattle.walks.proofs.terminate_flagged.Reads as reads
@@ -100,10 +101,10 @@ loop-again c =
     ⊎-elim
     (λ w.
     rw (w .9, w .10, w .11, w .12, w .7 .ensures)
-    (ending-goes (l .inv) (omega arith) (omega arith) (flag-on drops 32 (l .i) (omega arith) (sym (c .before .flag .ensures) ∙ w .0 .taken)) (w .3 .ensures) (w .3 .kept .1 .0)))
+    (ending-goes (l .inv) (omega arith) (omega arith) (flag-set 32 (l .i) drops (omega arith) (sym (c .before .flag .ensures) ∙ w .0 .taken)) (w .3 .ensures) (w .3 .kept .1 .0)))
     (λ w.
     rw (w .1, w .2, w .3, w .4)
-    (ending-skips (l .inv) (omega arith) (flag-off drops 32 (l .i) (omega arith) (sym (c .before .flag .ensures) ∙ w .0 .left)))) (c .if1 .came)
+    (ending-skips (l .inv) (omega arith) (flag-clear 32 (l .i) drops (omega arith) (sym (c .before .flag .ensures) ∙ w .0 .left)))) (c .if1 .came)
 
 -- src/lib.rt:119:1
 same-length : tie.Need-same-length Inv-loop μ-loop
@@ -111,7 +112,7 @@ same-length c = c .before .loop .inv .loop .size
 
 -- src/lib.rt:119:1
 returns : tie.Need-returns Inv-loop μ-loop
-returns c = ending-ends (c .before .loop .inv) (flags-none _ 32 _ (omega arith))
+returns c = ending-ends (c .before .loop .inv) (flags-done 32 _ _ (omega arith))
 
 pub terminate-flagged-spec : {M : Type 1} → statement M
 terminate-flagged-spec =

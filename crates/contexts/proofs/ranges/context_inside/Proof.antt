@@ -1,7 +1,7 @@
 -- `contexts::ranges::context_inside` meets its contract. Assumes nothing.
 use mathlib.Core.Path.{sym, _∙_}
 use borrow.Author.Needs.{needs}
-use Rattle.contexts.proofs.GuestLaws.{located-at, located-outside}
+use Rattle.guest.proofs.RunLaws.{located-at, located-outside}
 use Rattle.contexts.proofs.ranges.context_inside.Statement.{statement}
 use Rattle.contexts.proofs.ranges.context_inside.Tie as tie
 

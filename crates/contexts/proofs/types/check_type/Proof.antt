@@ -3,7 +3,7 @@ use mathlib.Core.Path.{sym, _∙_}
 use lib.ListN.{length}
 use borrow.Author.Tests.{not-true, not-false}
 use borrow.Author.Needs.{needs}
-use Rattle.contexts.proofs.GuestLaws.{located-fits}
+use Rattle.guest.proofs.RunLaws.{located-fits}
 use Rattle.contexts.proofs.CheckLaws.{type-outside, type-refused, type-passes}
 use Rattle.contexts.proofs.types.check_type.Statement.{statement}
 use Rattle.contexts.proofs.types.check_type.Tie as tie

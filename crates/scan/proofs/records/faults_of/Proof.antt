@@ -22,7 +22,7 @@ nonzero-requires c κs = search needs
 -- src/records.rt:127:9
 returns : tie.Need-returns
 unfolding recordOk
-returns c =     simp (not-true (c .before .before .args .contexts) (c .before .if1 .taken)) (c .nonzero .ensures)
+returns c = simp (not-true (c .before .before .args .contexts) (c .before .if1 .taken)) (c .nonzero .ensures)
 
 -- src/records.rt:130:8
 endpoint-number-requires : tie.Need-endpoint-number-requires

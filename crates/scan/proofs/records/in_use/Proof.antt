@@ -16,7 +16,7 @@ endpoint-number-requires c κs = search needs
 -- src/records.rt:86:9
 returns : tie.Need-returns
 unfolding inUse
-returns c =     simp (eq-eqb _ _ (sym (c .before .endpoint-number .ensures) ∙ c .if1 .taken))
+returns c = simp (eq-eqb _ _ (sym (c .before .endpoint-number .ensures) ∙ c .if1 .taken))
 
 -- src/records.rt:88:5
 inside-requires : tie.Need-inside-requires
@@ -25,7 +25,7 @@ inside-requires c κs = search needs
 -- src/records.rt:81:1
 returns-2 : tie.Need-returns-2
 unfolding inUse
-returns-2 c =     simp (← c .before .before .endpoint-number .ensures, ne-eqb _ _ (c .before .if1 .left)) (c .inside .ensures)
+returns-2 c = simp (← c .before .before .endpoint-number .ensures, ne-eqb _ _ (c .before .if1 .left)) (c .inside .ensures)
 
 pub in-use-spec : {M : Type 1} → statement M
 in-use-spec = tie.close (tie.spec endpoint-number-requires returns inside-requires returns-2)

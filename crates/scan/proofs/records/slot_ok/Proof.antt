@@ -14,7 +14,7 @@ enum-told c = search needs
 -- src/records.rt:99:17
 returns : tie.Need-returns
 unfolding ownOk
-returns c =     simp (c .before .before .before .enum-told .given .1, eq-eqb _ _ (c .before .if1 .taken))
+returns c = simp (c .before .before .before .enum-told .given .1, eq-eqb _ _ (c .before .if1 .taken))
 
 -- src/records.rt:103:31
 enum-told-2 : tie.Need-enum-told-2
@@ -47,27 +47,27 @@ in-use-requires-3 c κs = search needs
 -- src/records.rt:92:1
 returns-2 : tie.Need-returns-2
 unfolding ownOk
-returns-2 c =     simp (c .before .before .enum-told .given .1, ne-eqb _ _ (c .if1 .left))
+returns-2 c = simp (c .before .before .enum-told .given .1, ne-eqb _ _ (c .if1 .left))
 
 -- src/records.rt:92:1
 returns-3 : tie.Need-returns-3
 unfolding ownOk
-returns-3 c =     simp (c .before .enum-told2 .given .1)
+returns-3 c = simp (c .before .enum-told2 .given .1)
 
 -- src/records.rt:92:1
 returns-4 : tie.Need-returns-4
 unfolding ownOk
-returns-4 c =     simp (c .before .enum-told3 .given .1) (c .in-use .ensures)
+returns-4 c = simp (c .before .enum-told3 .given .1) (c .in-use .ensures)
 
 -- src/records.rt:92:1
 returns-5 : tie.Need-returns-5
 unfolding ownOk
-returns-5 c =     simp (c .before .enum-told4 .given .1) (c .in-use2 .ensures)
+returns-5 c = simp (c .before .enum-told4 .given .1) (c .in-use2 .ensures)
 
 -- src/records.rt:92:1
 returns-6 : tie.Need-returns-6
 unfolding ownOk
-returns-6 c =     simp (c .before .enum-told5 .given .1) (c .in-use3 .ensures)
+returns-6 c = simp (c .before .enum-told5 .given .1) (c .in-use3 .ensures)
 
 pub slot-ok-spec : {M : Type 1} → statement M
 slot-ok-spec =
