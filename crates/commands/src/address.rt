@@ -7,6 +7,17 @@ use definition::Slot;
 use definition::SlotState;
 use definition::Table;
 use guest::Located;
+ghost use mathlib.Core.Path.{_≡_};
+ghost use mathlib.Core.Bool.{false};
+ghost use Prim.Native.Nat.{_+_, _≤_, _<_};
+ghost use lib.ListN.{length};
+ghost use Rattle.commands.specs.Types.{Addressed};
+ghost use Rattle.definition.specs.Table.{isDisabled, endpointOf};
+ghost use Rattle.definition.specs.Commands as commands;
+ghost use Rattle.definition.specs.Calls as calls;
+ghost use Rattle.definition.specs.Rules.{Opened};
+ghost use Rattle.walks.specs.Promises.{walk};
+ghost use Rattle.commands.specs.Promises.{Carries, Answers, Settles, Based};
 
 // The slot context and endpoint 1's, at `from`, are copied to `base`; the slot state byte is stored between; endpoint 1 is launched.
 fn copy_contexts(
@@ -17,7 +28,11 @@ fn copy_contexts(
     slot: Slot,
     terminated: u64,
     stored: u64,
-) -> Outcome {
+) -> Outcome
+    requires { ⌜ Based id (slot .base) (length (now mem)) ⌝ }
+    requires { ⌜ (from + 64 ≤ length (now mem)) × (stored < 65536) ⌝ }
+    ensures { λ r. ⌜ Carries (commands.copyContexts id from (slot .base) (slot .state) (slot .entry) (walk t 0 terminated 0)) (now (mem .entry)) stored r (now (mem .exit)) ⌝ }
+{
     let base = slot.base;
     let state = slot.state;
     let context = guest::context::read_context(mem, from);
@@ -49,7 +64,10 @@ fn first_address(
     slot: Slot,
     pointer: u64,
     next: SlotState,
-) -> Outcome {
+) -> Outcome
+    requires { ⌜ (1 ≤ id) × (id ≤ 16) ⌝ }
+    ensures { λ r. ⌜ Settles (commands.carryOut (length (now (mem .entry))) pointer t id slot (commands.fresh next)) t (now (mem .entry)) r (now (mem .exit)) ⌝ }
+{
     let length = mem.len() as u64;
     let Located::At(at) = guest::address::locate(slot.entry, 8, length) else {
         return scan::refused(t, 193);
@@ -71,7 +89,11 @@ fn first_address(
 }
 
 // Default, BSR=0: endpoint 1 is terminated first, and the base is the one kept.
-fn second_address(t: Table, mem: &mut [u8], id: u64, slot: Slot, pointer: u64) -> Outcome {
+fn second_address(t: Table, mem: &mut [u8], id: u64, slot: Slot, pointer: u64) -> Outcome
+    requires { ⌜ Based id (slot .base) (length (now mem)) ⌝ }
+    requires { ⌜ isDisabled (endpointOf t id 1) ≡ false ⌝ }
+    ensures { λ r. ⌜ Settles (commands.carryOut (length (now (mem .entry))) pointer t id slot (commands.again Addressed)) t (now (mem .entry)) r (now (mem .exit)) ⌝ }
+{
     let length = mem.len() as u64;
     let base = slot.base;
     let Located::At(from) = guest::address::locate(guest::address::plus(pointer, 32), 64, length)
@@ -100,7 +122,10 @@ pub fn address_device(
     slot: Slot,
     pointer: u64,
     bsr: bool,
-) -> Outcome {
+) -> Outcome
+    requires { ⌜ Opened t (now mem) id slot ⌝ }
+    ensures { λ r. ⌜ Answers (calls.addressDevice id pointer bsr) t (now (mem .entry)) r (now (mem .exit)) ⌝ }
+{
     let checked = contexts::context_check(mem, pointer);
     if let Checked::Refused(code) = checked {
         return scan::refused(t, code);

@@ -8,6 +8,16 @@ use definition::Slot;
 use definition::SlotState;
 use definition::Table;
 use guest::Located;
+ghost use lib.ListN.{length};
+ghost use Rattle.guest.specs.Bytes.{setBits};
+ghost use Rattle.guest.specs.Prog.{bind};
+ghost use Rattle.commands.specs.Types.{Configured};
+ghost use Rattle.definition.specs.Walks.{begin};
+ghost use Rattle.definition.specs.Commands as commands;
+ghost use Rattle.definition.specs.Calls as calls;
+ghost use Rattle.definition.specs.Rules.{Opened};
+ghost use Rattle.walks.specs.Promises.{Rooms, Spaces};
+ghost use Rattle.commands.specs.Promises.{Carries, Answers, Settles, Based};
 
 // All drops, then all adds, then the slot state byte. Every range is known to lie in memory.
 fn carry_out(
@@ -18,7 +28,12 @@ fn carry_out(
     pointer: u64,
     drops: u32,
     adds: u32,
-) -> Outcome {
+) -> Outcome
+    requires { ⌜ Based id (slot .base) (length (now mem)) ⌝ }
+    requires { ⌜ Rooms t id (slot .base) 2 (length (now mem)) ⌝ }
+    requires { ⌜ Spaces pointer (slot .base) adds (length (now mem)) ⌝ }
+    ensures { λ r. ⌜ Carries (bind (commands.dropAndAdd id pointer (slot .base) (setBits 30 2 drops) (setBits 30 2 adds) (begin t)) (commands.finish id slot Configured)) (now (mem .entry)) 0 r (now (mem .exit)) ⌝ }
+{
     let base = slot.base;
     let w = walks::terminate_flagged(t, mem, id, base, drops);
     let v = walks::add_flagged(w.table, mem, id, pointer, base, adds);
@@ -38,7 +53,11 @@ fn carry_out(
 }
 
 // DC=0: the context check, the drop flags, the ranges; then the walk.
-fn reconfigure(t: Table, mem: &mut [u8], id: u64, slot: Slot, pointer: u64) -> Outcome {
+fn reconfigure(t: Table, mem: &mut [u8], id: u64, slot: Slot, pointer: u64) -> Outcome
+    requires { ⌜ Based id (slot .base) (length (now mem)) ⌝ }
+    requires { ⌜ Rooms t id (slot .base) 2 (length (now mem)) ⌝ }
+    ensures { λ r. ⌜ Settles (commands.reconfigure commands.usbTypes id pointer slot (length (now (mem .entry))) t) t (now (mem .entry)) r (now (mem .exit)) ⌝ }
+{
     let adds = match contexts::context_check(mem, pointer) {
         Checked::Refused(code) => return scan::refused(t, code),
         Checked::Adds(adds) => adds,
@@ -62,7 +81,10 @@ pub fn configure_endpoint(
     slot: Slot,
     pointer: u64,
     dc: bool,
-) -> Outcome {
+) -> Outcome
+    requires { ⌜ Opened t (now mem) id slot ⌝ }
+    ensures { λ r. ⌜ Answers (calls.configureEndpoint id pointer dc) t (now (mem .entry)) r (now (mem .exit)) ⌝ }
+{
     let state = slot.state;
     if !device::is_settled(state) {
         return scan::refused(t, 19);

@@ -6,6 +6,13 @@ use definition::Outcome;
 use definition::Slot;
 use definition::SlotState;
 use definition::Table;
+ghost use mathlib.Core.Path.{_≡_};
+ghost use lib.ListN.{length};
+ghost use Rattle.definition.specs.Commands as commands;
+ghost use Rattle.definition.specs.Calls as calls;
+ghost use Rattle.definition.specs.Rules.{Opened};
+ghost use Rattle.walks.specs.Promises.{Rooms};
+ghost use Rattle.commands.specs.Promises.{Carries, Answers, Based, isSettled};
 
 const FREE: Slot = Slot {
     state: SlotState::Free,
@@ -14,7 +21,10 @@ const FREE: Slot = Slot {
 };
 
 // All endpoints are terminated, and the slot is free. The slot state byte is untouched.
-pub fn disable_slot(t: Table, mem: &mut [u8], id: u64, slot: Slot) -> Outcome {
+pub fn disable_slot(t: Table, mem: &mut [u8], id: u64, slot: Slot) -> Outcome
+    requires { ⌜ Opened t (now mem) id slot ⌝ }
+    ensures { λ r. ⌜ Answers (calls.disableSlot id) t (now (mem .entry)) r (now (mem .exit)) ⌝ }
+{
     let base = slot.base;
     let w = walks::terminate_from(t, mem, id, base, 1);
     let mut u = w.table;
@@ -32,7 +42,10 @@ pub fn disable_slot(t: Table, mem: &mut [u8], id: u64, slot: Slot) -> Outcome {
 }
 
 // The context check alone.
-pub fn evaluate_context(t: Table, mem: &[u8], id: u64, slot: Slot, pointer: u64) -> Outcome {
+pub fn evaluate_context(t: Table, mem: &[u8], id: u64, slot: Slot, pointer: u64) -> Outcome
+    requires { ⌜ Opened t (now mem) id slot ⌝ }
+    ensures { λ r. ⌜ Answers (calls.evaluateContext id pointer) t (now (mem .entry)) r (now (mem .entry)) ⌝ }
+{
     let checked = contexts::context_check(mem, pointer);
     if let Checked::Refused(code) = checked {
         return scan::refused(t, code);
@@ -49,7 +62,9 @@ pub fn evaluate_context(t: Table, mem: &[u8], id: u64, slot: Slot, pointer: u64)
 }
 
 // Configure Endpoint and Reset Device take a slot in this state.
-pub fn is_settled(state: SlotState) -> bool {
+pub fn is_settled(state: SlotState) -> bool
+    ensures { λ r. ⌜ r ≡ isSettled state ⌝ }
+{
     match state {
         SlotState::Addressed => true,
         SlotState::Configured => true,
@@ -58,7 +73,11 @@ pub fn is_settled(state: SlotState) -> bool {
 }
 
 // Endpoints 2 to 31 are terminated, and the slot goes to its next state.
-pub fn deconfigure(t: Table, mem: &mut [u8], id: u64, slot: Slot, next: SlotState) -> Outcome {
+pub fn deconfigure(t: Table, mem: &mut [u8], id: u64, slot: Slot, next: SlotState) -> Outcome
+    requires { ⌜ Based id (slot .base) (length (now mem)) ⌝ }
+    requires { ⌜ Rooms t id (slot .base) 2 (length (now mem)) ⌝ }
+    ensures { λ r. ⌜ Carries (commands.deconfigure id slot next t) (now (mem .entry)) 0 r (now (mem .exit)) ⌝ }
+{
     let base = slot.base;
     let w = walks::terminate_from(t, mem, id, base, 2);
     outcome::finish(
@@ -76,7 +95,10 @@ pub fn deconfigure(t: Table, mem: &mut [u8], id: u64, slot: Slot, next: SlotStat
     )
 }
 
-pub fn reset_device(t: Table, mem: &mut [u8], id: u64, slot: Slot) -> Outcome {
+pub fn reset_device(t: Table, mem: &mut [u8], id: u64, slot: Slot) -> Outcome
+    requires { ⌜ Opened t (now mem) id slot ⌝ }
+    ensures { λ r. ⌜ Answers (calls.resetDevice id) t (now (mem .entry)) r (now (mem .exit)) ⌝ }
+{
     let state = slot.state;
     if !is_settled(state) {
         return scan::refused(t, 19);

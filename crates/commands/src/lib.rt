@@ -5,4 +5,3 @@ pub mod configure;
 pub mod device;
 mod outcome;
 pub mod reach;
-pub mod registers;

@@ -5,11 +5,14 @@ use definition::Slot;
 use definition::SlotState;
 use definition::Table;
 ghost use mathlib.Core.Path.{_≡_};
-ghost use Prim.Native.Nat.{_+_, _≤_};
+ghost use mathlib.Core.List.{[], _∷_};
+ghost use Prim.Native.Nat.{_+_, _≤_, _<_};
 ghost use lib.ListN.{length};
-ghost use Rattle.definition.specs.Table.{withSlot};
-ghost use Rattle.definition.specs.Commands.{contextState};
-ghost use Rattle.commands.specs.Promises.{tallied, Carries, finished};
+ghost use Rattle.guest.specs.Bytes.{slotStateByte};
+ghost use Rattle.guest.specs.Prog.{splice};
+ghost use Rattle.definition.specs.Commands as commands;
+ghost use Rattle.walks.specs.Promises.{walk};
+ghost use Rattle.commands.specs.Promises.{tallied, Carries, Based};
 
 // What a command on endpoints answers with.
 pub struct Tally {
@@ -40,8 +43,7 @@ pub fn success(t: Table, tally: Tally) -> Outcome
 
 // The slot state as the slot context has it (xHCI 6.2.2).
 pub fn context_state(state: SlotState) -> u8
-    ensures { λ r. ⌜ r ≡ contextState state ⌝ }
-    ensures { λ r. ⌜ r ≤ 3 ⌝ }
+    ensures { λ r. ⌜ (r ≡ commands.contextState state) × (r ≤ 3) ⌝ }
 {
     match state {
         SlotState::Free => 0,
@@ -55,6 +57,7 @@ pub fn context_state(state: SlotState) -> u8
 // The slot state byte of the device context at `base`.
 pub fn store_slot_state(mem: &mut [u8], base: u64, state: SlotState)
     requires { ⌜ base + 64 ≤ length (now mem) ⌝ }
+    ensures { λ r. ⌜ now (mem .exit) ≡ splice (now (mem .entry)) (base + 15) (slotStateByte (commands.contextState state) ∷ []) ⌝ }
 {
     let byte = guest::bits::slot_state_byte(context_state(state));
     guest::words::store_byte(mem, guest::address::index(base) + 15, byte);
@@ -68,7 +71,11 @@ pub fn finish(
     slot: Slot,
     next: SlotState,
     tally: Tally,
-) -> Outcome {
+) -> Outcome
+    requires { ⌜ Based id (slot .base) (length (now mem)) ⌝ }
+    requires { ⌜ tally .stored < 65536 ⌝ }
+    ensures { λ r. ⌜ Carries (commands.finish id slot next (walk t (tally .launched) (tally .terminated) (tally .port))) (now (mem .entry)) (tally .stored) r (now (mem .exit)) ⌝ }
+{
     let base = slot.base;
     store_slot_state(mem, base, next);
     let mut u = t;

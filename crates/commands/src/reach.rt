@@ -4,8 +4,16 @@ use definition::Input;
 use definition::Outcome;
 use definition::Slot;
 use definition::Table;
+ghost use mathlib.Core.Path.{_≡_};
+ghost use mathlib.Core.Bool.{true, cond};
+ghost use Prim.Native.Nat.{_≤_};
+ghost use lib.ListN.{length};
+ghost use Rattle.definition.specs.Table.{slotOf, wellFormed};
+ghost use Rattle.commands.specs.Promises.{Settles, reaching};
 
-fn bit(b: bool) -> u64 {
+fn bit(b: bool) -> u64
+    ensures { λ r. ⌜ r ≡ cond b 1 0 ⌝ }
+{
     if b { 1 } else { 0 }
 }
 
@@ -18,7 +26,10 @@ pub fn reach(
     i: u64,
     input: Input,
     absent: u64,
-) -> Outcome {
+) -> Outcome
+    requires { ⌜ (1 ≤ id) × (id ≤ 16) × (wellFormed t ≡ true) × (t .length ≡ length (now mem)) × (slotOf t id ≡ slot) ⌝ }
+    ensures { λ r. ⌜ Settles (reaching absent id i input slot t) t (now (mem .entry)) r (now (mem .exit)) ⌝ }
+{
     if i == 0 {
         return scan::refused(t, absent);
     }
