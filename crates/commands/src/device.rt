@@ -66,9 +66,11 @@ pub fn is_settled(state: SlotState) -> bool
     ensures { λ r. ⌜ r ≡ isSettled state ⌝ }
 {
     match state {
+        SlotState::Free => false,
+        SlotState::Enabled => false,
+        SlotState::Default => false,
         SlotState::Addressed => true,
         SlotState::Configured => true,
-        _ => false,
     }
 }
 

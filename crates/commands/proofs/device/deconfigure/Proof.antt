@@ -1,3 +1,4 @@
+use Rattle.commands.proofs.OutcomeLaws.{deconfigured}
 use borrow.Author.Needs.{needs}
 use Rattle.commands.proofs.device.deconfigure.Statement.{statement}
 use Rattle.commands.proofs.device.deconfigure.Tie as tie
@@ -20,7 +21,9 @@ same-length c = search needs
 
 -- src/device.rt:76:1
 returns : tie.Need-returns
-returns c = ?
+returns c =
+    let a = c .before .before .before .before .before .before .before .before .before .args in
+    deconfigured (a .id) (a .slot) (a .next) (a .t) (c .before .before .before .before .before .before .terminate-from .ensures) (c .before .before .finish .ensures)
 
 pub deconfigure-spec : {M : Type 1} → statement M
 deconfigure-spec = tie.close (tie.spec terminate-from-requires finish-requires same-length returns)

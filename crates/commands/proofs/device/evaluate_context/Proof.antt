@@ -1,3 +1,10 @@
+use mathlib.Core.Path.{_≡_, sym, _∙_}
+use Rattle.guest.proofs.RunLaws.{run-done}
+use Rattle.definition.specs.Calls.{prog, meaning}
+use Rattle.definition.specs.Commands as commands
+use Rattle.contexts.proofs.CheckLaws.{check-goes-on, check-refuses}
+use Rattle.scan.proofs.OpeningLaws.{refuses-with, meets-ok}
+use Rattle.commands.proofs.OutcomeLaws.{opened-settles}
 use borrow.Author.Needs.{needs}
 use Rattle.commands.proofs.device.evaluate_context.Statement.{statement}
 use Rattle.commands.proofs.device.evaluate_context.Tie as tie
@@ -21,7 +28,12 @@ refused-requires c κs = search needs
 
 -- src/device.rt:51:9
 returns : tie.Need-returns
-returns c = ?
+unfolding prog meaning commands.evaluateContext
+returns c =
+    let p = c .before .before .before .before .before .before in
+    let a = p .args in
+    rw (c .refused .ensures)
+    (opened-settles 11 (a .t) (a .id) _ (p .pre) (refuses-with (a .t) (check-refuses (a .pointer) (a .mem .now) _ (c .before .before .before .before .context-check .ensures) (c .before .before .checked .given .1))))
 
 enum-told : tie.Need-enum-told
 enum-told c = search needs
@@ -32,7 +44,12 @@ success-requires c κs = search needs
 
 -- src/device.rt:45:1
 returns-2 : tie.Need-returns-2
-returns-2 c = ?
+unfolding prog meaning commands.evaluateContext
+returns-2 c =
+    let p = c .before .before .before .before .before in
+    let a = p .args in
+    rw (c .success .ensures)
+    (opened-settles 11 (a .t) (a .id) _ (p .pre) (meets-ok (a .t) (record { ends = check-goes-on (a .pointer) (a .mem .now) _ (c .before .before .before .context-check .ensures) (c .before .enum-told .given .1) ∙ run-done _ _ _ })))
 
 pub evaluate-context-spec : {M : Type 1} → statement M
 evaluate-context-spec =

@@ -1,3 +1,5 @@
+use Rattle.definition.specs.Table.{withSlot}
+use Rattle.commands.proofs.OutcomeLaws.{finished}
 use borrow.Author.Needs.{needs}
 use Rattle.commands.proofs.outcome.finish.Statement.{statement}
 use Rattle.commands.proofs.outcome.finish.Tie as tie
@@ -36,7 +38,10 @@ same-length c = search needs
 
 -- src/outcome.rt:67:1
 returns : tie.Need-returns
-returns c = ?
+unfolding withSlot
+returns c =
+    let a = c .before .before .before .before .before .before .before .args in
+    rw (c .success .ensures, c .before .before .before .before .store-slot-state .ensures) (finished (a .id) (a .slot) (a .next) (a .t) (a .tally .launched) (a .tally .terminated) (a .tally .port) (a .tally .stored) (a .mem .now))
 
 pub finish-spec : {M : Type 1} → statement M
 finish-spec =

@@ -1,3 +1,4 @@
+use mathlib.Core.Path.{_≡_, _∙_}
 use borrow.Author.Needs.{needs}
 use Rattle.commands.proofs.outcome.store_slot_state.Statement.{statement}
 use Rattle.commands.proofs.outcome.store_slot_state.Tie as tie
@@ -34,7 +35,9 @@ same-length c = search needs
 
 -- src/outcome.rt:58:1
 returns : tie.Need-returns
-returns c = ?
+returns c =
+    let a = c .before .before .before .before .before .before .before .before .args in
+    rw (c .before .before .store-byte .ensures, c .before .before .before .index .ensures, c .before .before .before .before .before .slot-state-byte .ensures, c .before .before .before .before .before .before .context-state .ensures .0)
 
 pub store-slot-state-spec : {M : Type 1} → statement M
 store-slot-state-spec =

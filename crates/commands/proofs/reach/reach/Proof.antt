@@ -1,3 +1,7 @@
+use mathlib.Core.Path.{_≡_, sym, _∙_}
+use native.Mathlib.Omega.{arith}
+use Rattle.definition.specs.Table.{endpointOf, withEndpoint}
+use Rattle.commands.proofs.ReachLaws.{ready, reach-zero, reach-high, reach-disabled, reach-refused, reach-taken}
 use borrow.Author.Needs.{needs}
 use Rattle.commands.proofs.reach.reach.Statement.{statement}
 use Rattle.commands.proofs.reach.reach.Tie as tie
@@ -16,7 +20,10 @@ refused-requires c κs = search needs
 
 -- src/reach.rt:34:9
 returns : tie.Need-returns
-returns c = ?
+returns c =
+    let p = c .before .before .before in
+    let a = p .args in
+    rw (c .refused .ensures) (reach-zero (a .absent) (a .t1) (a .id) (a .i) (a .input) (a .slot) (a .mem .now) (c .before .if1 .taken))
 
 -- src/reach.rt:37:9
 refused-requires-2 : tie.Need-refused-requires-2
@@ -24,7 +31,10 @@ refused-requires-2 c κs = search needs
 
 -- src/reach.rt:37:9
 returns-2 : tie.Need-returns-2
-returns-2 c = ?
+returns-2 c =
+    let p = c .before .before .before .before in
+    let a = p .args in
+    rw (c .refused2 .ensures) (reach-high (a .absent) (a .t1) (a .id) (a .i) (a .input) (a .slot) (a .mem .now) (c .before .if2 .taken))
 
 -- src/reach.rt:39:15
 sub-k : tie.Need-sub-k
@@ -60,7 +70,12 @@ refused-requires-3 c κs = search needs
 
 -- src/reach.rt:42:9
 returns-3 : tie.Need-returns-3
-returns-3 c = ?
+unfolding endpointOf
+returns-3 c =
+    let p = c .before .before .before .before .before .before .before in
+    let a = p .args in
+    rw (c .refused3 .ensures)
+    (reach-disabled (a .absent) (a .t1) (a .id) (a .i) (a .input) (a .slot) (a .mem .now) (omega arith) (omega arith) (sym (c .before .before .is-disabled .ensures) ∙ c .before .if3 .taken))
 
 -- src/reach.rt:44:68
 mul-plus : tie.Need-mul-plus
@@ -76,7 +91,14 @@ index-requires c κs = search needs
 
 -- src/reach.rt:45:9
 step-requires : tie.Need-step-requires
-step-requires c κs = ?
+unfolding endpointOf
+step-requires c κs =
+    let p = c .before .before .before .before .before .before .before .before .before in
+    let a = p .args in
+    let q = p .pre in
+    let d = sym (c .before .before .before .before .is-disabled .ensures) ∙ c .before .before .before .if3 .left in
+    rw (c .before .index .ensures, c .before .before .plus .ensures)
+    (d, ready (a .t1) (a .id) (a .i) (a .slot) (a .mem .now) (q .2) (q .3) (q .0) (q .1) (q .4) (omega arith) (omega arith) d)
 
 -- src/reach.rt:47:9
 refused-requires-4 : tie.Need-refused-requires-4
@@ -88,7 +110,14 @@ same-length c = search needs
 
 -- src/reach.rt:47:9
 returns-4 : tie.Need-returns-4
-returns-4 c = ?
+unfolding endpointOf
+returns-4 c =
+    let p = c .before .before .before .before .before .before .before .before .before .before .before .before .before .before .before in
+    let a = p .args in
+    let d = sym (c .before .before .before .before .before .before .before .before .before .before .is-disabled .ensures) ∙ c .before .before .before .before .before .before .before .before .before .if3 .left in
+    let k = rw (c .before .before .before .before .before .before .before .index .ensures, c .before .before .before .before .before .before .before .before .plus .ensures) at (c .before .before .before .before .before .step .ensures) in
+    rw (c .refused4 .ensures)
+    (reach-refused (a .absent) (a .t1) (a .id) (a .i) (a .input) (a .slot) (a .mem .now) (omega (arith, c .before .before .before .before .before .before .before .before .before .before .before .before .before .if1 .left)) (c .before .before .before .before .before .before .before .before .before .before .before .before .if2 .left) d k (c .before .if4 .taken))
 
 -- src/reach.rt:51:5
 mul-f : tie.Need-mul-f
@@ -112,7 +141,14 @@ same-length-2 c = search needs
 
 -- src/reach.rt:21:1
 returns-5 : tie.Need-returns-5
-returns-5 c = ?
+unfolding endpointOf withEndpoint
+returns-5 c =
+    let p = c .before .before .before .before .before .before .before .before .before .before .before .before .before .before .before .before .before in
+    let a = p .args in
+    let d = sym (c .before .before .before .before .before .before .before .before .before .before .before .before .is-disabled .ensures) ∙ c .before .before .before .before .before .before .before .before .before .before .before .if3 .left in
+    let k = rw (c .before .before .before .before .before .before .before .before .before .index .ensures, c .before .before .before .before .before .before .before .before .before .before .plus .ensures) at (c .before .before .before .before .before .before .before .step .ensures) in
+    rw (c .bit2 .ensures, c .before .bit .ensures)
+    (reach-taken (a .absent) (a .t1) (a .id) (a .i) (a .input) (a .slot) (a .mem .now) (omega (arith, c .before .before .before .before .before .before .before .before .before .before .before .before .before .before .before .if1 .left)) (c .before .before .before .before .before .before .before .before .before .before .before .before .before .before .if2 .left) d k (c .before .before .before .if4 .left))
 
 pub reach-spec : {M : Type 1} → statement M
 reach-spec =

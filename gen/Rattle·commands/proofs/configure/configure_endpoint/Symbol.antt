@@ -1,0 +1,1 @@
+pub use Rattle.commands.proofs.configure.configure_endpoint.Symbol.{routine, name}

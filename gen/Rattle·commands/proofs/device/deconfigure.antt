@@ -1,0 +1,15 @@
+pub mod Key
+pub mod Kinds
+pub mod Met
+pub mod Reads
+pub mod Statement
+pub mod Symbol
+pub use Rattle.commands.proofs.device.deconfigure.{
+  signature,
+  ended,
+  requires-1,
+  requires-2,
+  ensures-1,
+  clauses,
+  spec,
+}

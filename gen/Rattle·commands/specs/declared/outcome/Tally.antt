@@ -1,0 +1,1 @@
+pub use Rattle.commands.specs.declared.outcome.Tally.{Tally}

@@ -1,0 +1,4 @@
+pub mod address_device
+mod copy_contexts
+mod first_address
+mod second_address

@@ -1,0 +1,128 @@
+use borrow.Author.Needs.{needs}
+use Rattle.commands.proofs.address.address_device.Statement.{statement}
+use Rattle.commands.proofs.address.address_device.Tie as tie
+use Rattle.commands.proofs.address.address_device.Reads as reads
+use Rattle.commands.proofs.address.address_device.Lts as lts
+use Rattle.commands.proofs.address.first_address.Reads as first-address-reads
+use Rattle.commands.proofs.address.second_address.Reads as second-address-reads
+use Rattle.contexts.proofs.context_check.Reads as context-check-reads
+use Rattle.scan.proofs.refused.Reads as refused-reads
+
+-- src/address.rt:129:9
+context-check-requires : tie.Need-context-check-requires
+context-check-requires c κs = search needs
+
+-- src/address.rt:130:29
+enum-known-checked : tie.Need-enum-known-checked
+enum-known-checked c = search needs
+
+-- src/address.rt:131:9
+refused-requires : tie.Need-refused-requires
+refused-requires c κs = search needs
+
+-- src/address.rt:131:9
+same-length : tie.Need-same-length
+same-length c = search needs
+
+-- src/address.rt:131:9
+returns : tie.Need-returns
+returns c = ?
+
+enum-told : tie.Need-enum-told
+enum-told c = search needs
+
+-- src/address.rt:136:16
+enum-told-2 : tie.Need-enum-told-2
+enum-told-2 c = search needs
+
+-- src/address.rt:137:17
+first-address-requires : tie.Need-first-address-requires
+first-address-requires c κs = ?
+
+-- src/address.rt:137:17
+same-length-2 : tie.Need-same-length-2
+same-length-2 c = search needs
+
+-- src/address.rt:137:17
+returns-2 : tie.Need-returns-2
+returns-2 c = ?
+
+-- src/address.rt:139:13
+first-address-requires-2 : tie.Need-first-address-requires-2
+first-address-requires-2 c κs = ?
+
+-- src/address.rt:142:16
+enum-told-3 : tie.Need-enum-told-3
+enum-told-3 c = search needs
+
+-- src/address.rt:143:17
+refused-requires-2 : tie.Need-refused-requires-2
+refused-requires-2 c κs = search needs
+
+-- src/address.rt:143:17
+same-length-3 : tie.Need-same-length-3
+same-length-3 c = search needs
+
+-- src/address.rt:143:17
+returns-3 : tie.Need-returns-3
+returns-3 c = ?
+
+-- src/address.rt:145:13
+second-address-requires : tie.Need-second-address-requires
+second-address-requires c κs = ?
+
+-- src/address.rt:147:14
+refused-requires-3 : tie.Need-refused-requires-3
+refused-requires-3 c κs = search needs
+
+-- src/address.rt:118:1
+same-length-4 : tie.Need-same-length-4
+same-length-4 c = search needs
+
+-- src/address.rt:118:1
+returns-4 : tie.Need-returns-4
+returns-4 c = ?
+
+-- src/address.rt:118:1
+same-length-5 : tie.Need-same-length-5
+same-length-5 c = search needs
+
+-- src/address.rt:118:1
+returns-5 : tie.Need-returns-5
+returns-5 c = ?
+
+-- src/address.rt:118:1
+same-length-6 : tie.Need-same-length-6
+same-length-6 c = search needs
+
+-- src/address.rt:118:1
+returns-6 : tie.Need-returns-6
+returns-6 c = ?
+
+pub address-device-spec : {M : Type 1} → statement M
+address-device-spec =
+    tie.close
+    (tie.spec
+    context-check-requires
+    enum-known-checked
+    refused-requires
+    same-length
+    returns
+    enum-told
+    enum-told-2
+    first-address-requires
+    same-length-2
+    returns-2
+    first-address-requires-2
+    enum-told-3
+    refused-requires-2
+    same-length-3
+    returns-3
+    second-address-requires
+    refused-requires-3
+    same-length-4
+    returns-4
+    same-length-5
+    returns-5
+    same-length-6
+    returns-6)

@@ -1,0 +1,2 @@
+pub use Rattle.commands.proofs.address.copy_contexts.Code.{routine}
+pub use Rattle.commands.proofs.address.copy_contexts.Key.{name}

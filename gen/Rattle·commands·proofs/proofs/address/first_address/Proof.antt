@@ -1,0 +1,124 @@
+use borrow.Author.Needs.{needs}
+use Rattle.commands.proofs.address.first_address.Statement.{statement}
+use Rattle.commands.proofs.address.first_address.Tie as tie
+use Rattle.commands.proofs.address.first_address.Reads as reads
+use Rattle.commands.proofs.address.first_address.Lts as lts
+use Rattle.commands.proofs.address.copy_contexts.Reads as copy-contexts-reads
+use Rattle.guest.proofs.address.locate.Reads as locate-reads
+use Rattle.guest.proofs.address.plus.Reads as plus-reads
+use Rattle.guest.proofs.words.read_u64.Reads as read-u64-reads
+use Rattle.scan.proofs.refused.Reads as refused-reads
+
+-- src/address.rt:72:27
+locate-requires : tie.Need-locate-requires
+locate-requires c κs = search needs
+
+-- src/address.rt:72:21
+enum-known-at : tie.Need-enum-known-at
+enum-known-at c = search needs
+
+-- src/address.rt:73:9
+enum-told : tie.Need-enum-told
+enum-told c = search needs
+
+-- src/address.rt:73:9
+refused-requires : tie.Need-refused-requires
+refused-requires c κs = search needs
+
+-- src/address.rt:73:9
+returns : tie.Need-returns
+returns c = ?
+
+-- src/address.rt:75:9
+read-u64-requires : tie.Need-read-u64-requires
+read-u64-requires c κs = ?
+
+-- src/address.rt:76:52
+plus-requires : tie.Need-plus-requires
+plus-requires c κs = search needs
+
+-- src/address.rt:76:29
+locate-requires-2 : tie.Need-locate-requires-2
+locate-requires-2 c κs = search needs
+
+-- src/address.rt:76:21
+enum-known-from : tie.Need-enum-known-from
+enum-known-from c = search needs
+
+-- src/address.rt:78:9
+enum-told-2 : tie.Need-enum-told-2
+enum-told-2 c = search needs
+
+-- src/address.rt:78:9
+refused-requires-2 : tie.Need-refused-requires-2
+refused-requires-2 c κs = search needs
+
+-- src/address.rt:78:9
+same-length : tie.Need-same-length
+same-length c = search needs
+
+-- src/address.rt:78:9
+returns-2 : tie.Need-returns-2
+returns-2 c = ?
+
+-- src/address.rt:80:26
+locate-requires-3 : tie.Need-locate-requires-3
+locate-requires-3 c κs = search needs
+
+enum-told-3 : tie.Need-enum-told-3
+enum-told-3 c = search needs
+
+-- src/address.rt:81:9
+enum-told-4 : tie.Need-enum-told-4
+enum-told-4 c = search needs
+
+-- src/address.rt:81:9
+refused-requires-3 : tie.Need-refused-requires-3
+refused-requires-3 c κs = search needs
+
+-- src/address.rt:81:9
+same-length-2 : tie.Need-same-length-2
+same-length-2 c = search needs
+
+-- src/address.rt:81:9
+returns-3 : tie.Need-returns-3
+returns-3 c = ?
+
+-- src/address.rt:88:5
+copy-contexts-requires : tie.Need-copy-contexts-requires
+copy-contexts-requires c κs = ?
+
+-- src/address.rt:60:1
+same-length-3 : tie.Need-same-length-3
+same-length-3 c = search needs
+
+-- src/address.rt:60:1
+returns-4 : tie.Need-returns-4
+returns-4 c = ?
+
+pub first-address-spec : {M : Type 1} → statement M
+first-address-spec =
+    tie.close
+    (tie.spec
+    locate-requires
+    enum-known-at
+    enum-told
+    refused-requires
+    returns
+    read-u64-requires
+    plus-requires
+    locate-requires-2
+    enum-known-from
+    enum-told-2
+    refused-requires-2
+    same-length
+    returns-2
+    locate-requires-3
+    enum-told-3
+    enum-told-4
+    refused-requires-3
+    same-length-2
+    returns-3
+    copy-contexts-requires
+    same-length-3
+    returns-4)

@@ -1,0 +1,3 @@
+mod carry_out
+pub mod configure_endpoint
+mod reconfigure

@@ -1,0 +1,59 @@
+use borrow.Author.Needs.{needs}
+use Rattle.commands.proofs.configure.configure_endpoint.Statement.{statement}
+use Rattle.commands.proofs.configure.configure_endpoint.Tie as tie
+use Rattle.commands.proofs.configure.configure_endpoint.Reads as reads
+use Rattle.commands.proofs.configure.configure_endpoint.Lts as lts
+use Rattle.commands.proofs.configure.reconfigure.Reads as reconfigure-reads
+use Rattle.commands.proofs.device.deconfigure.Reads as deconfigure-reads
+use Rattle.commands.proofs.device.is_settled.Reads as is-settled-reads
+use Rattle.scan.proofs.refused.Reads as refused-reads
+
+-- src/configure.rt:89:9
+is-settled-requires : tie.Need-is-settled-requires
+is-settled-requires c κs = search needs
+
+-- src/configure.rt:90:9
+refused-requires : tie.Need-refused-requires
+refused-requires c κs = search needs
+
+-- src/configure.rt:90:9
+returns : tie.Need-returns
+returns c = ?
+
+-- src/configure.rt:93:9
+deconfigure-requires : tie.Need-deconfigure-requires
+deconfigure-requires c κs = ?
+
+-- src/configure.rt:93:9
+same-length : tie.Need-same-length
+same-length c = search needs
+
+-- src/configure.rt:93:9
+returns-2 : tie.Need-returns-2
+returns-2 c = ?
+
+-- src/configure.rt:95:5
+reconfigure-requires : tie.Need-reconfigure-requires
+reconfigure-requires c κs = ?
+
+-- src/configure.rt:77:1
+same-length-2 : tie.Need-same-length-2
+same-length-2 c = search needs
+
+-- src/configure.rt:77:1
+returns-3 : tie.Need-returns-3
+returns-3 c = ?
+
+pub configure-endpoint-spec : {M : Type 1} → statement M
+configure-endpoint-spec =
+    tie.close
+    (tie.spec
+    is-settled-requires
+    refused-requires
+    returns
+    deconfigure-requires
+    same-length
+    returns-2
+    reconfigure-requires
+    same-length-2
+    returns-3)

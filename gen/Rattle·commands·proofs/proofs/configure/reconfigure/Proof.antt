@@ -1,0 +1,116 @@
+use borrow.Author.Needs.{needs}
+use Rattle.commands.proofs.configure.reconfigure.Statement.{statement}
+use Rattle.commands.proofs.configure.reconfigure.Tie as tie
+use Rattle.commands.proofs.configure.reconfigure.Reads as reads
+use Rattle.commands.proofs.configure.reconfigure.Lts as lts
+use Rattle.commands.proofs.configure.carry_out.Reads as carry-out-reads
+use Rattle.contexts.proofs.context_check.Reads as context-check-reads
+use Rattle.contexts.proofs.ranges_inside.Reads as ranges-inside-reads
+use Rattle.guest.proofs.address.locate.Reads as locate-reads
+use Rattle.guest.proofs.words.read_u32.Reads as read-u32-reads
+use Rattle.scan.proofs.refused.Reads as refused-reads
+
+-- src/configure.rt:61:22
+context-check-requires : tie.Need-context-check-requires
+context-check-requires c κs = search needs
+
+-- src/configure.rt:62:26
+enum-known-code : tie.Need-enum-known-code
+enum-known-code c = search needs
+
+-- src/configure.rt:62:35
+refused-requires : tie.Need-refused-requires
+refused-requires c κs = search needs
+
+-- src/configure.rt:62:35
+same-length : tie.Need-same-length
+same-length c = search needs
+
+-- src/configure.rt:62:35
+returns : tie.Need-returns
+returns c = ?
+
+-- src/configure.rt:63:23
+enum-known-adds : tie.Need-enum-known-adds
+enum-known-adds c = search needs
+
+-- src/configure.rt:66:27
+locate-requires : tie.Need-locate-requires
+locate-requires c κs = search needs
+
+-- src/configure.rt:66:21
+enum-known-at : tie.Need-enum-known-at
+enum-known-at c = search needs
+
+-- src/configure.rt:67:9
+enum-told : tie.Need-enum-told
+enum-told c = search needs
+
+-- src/configure.rt:67:9
+refused-requires-2 : tie.Need-refused-requires-2
+refused-requires-2 c κs = search needs
+
+-- src/configure.rt:67:9
+same-length-2 : tie.Need-same-length-2
+same-length-2 c = search needs
+
+-- src/configure.rt:67:9
+returns-2 : tie.Need-returns-2
+returns-2 c = ?
+
+-- src/configure.rt:69:9
+read-u32-requires : tie.Need-read-u32-requires
+read-u32-requires c κs = ?
+
+-- src/configure.rt:70:9
+ranges-inside-requires : tie.Need-ranges-inside-requires
+ranges-inside-requires c κs = search needs
+
+-- src/configure.rt:71:9
+refused-requires-3 : tie.Need-refused-requires-3
+refused-requires-3 c κs = search needs
+
+-- src/configure.rt:71:9
+same-length-3 : tie.Need-same-length-3
+same-length-3 c = search needs
+
+-- src/configure.rt:71:9
+returns-3 : tie.Need-returns-3
+returns-3 c = ?
+
+-- src/configure.rt:73:5
+carry-out-requires : tie.Need-carry-out-requires
+carry-out-requires c κs = ?
+
+-- src/configure.rt:56:1
+same-length-4 : tie.Need-same-length-4
+same-length-4 c = search needs
+
+-- src/configure.rt:56:1
+returns-4 : tie.Need-returns-4
+returns-4 c = ?
+
+pub reconfigure-spec : {M : Type 1} → statement M
+reconfigure-spec =
+    tie.close
+    (tie.spec
+    context-check-requires
+    enum-known-code
+    refused-requires
+    same-length
+    returns
+    enum-known-adds
+    locate-requires
+    enum-known-at
+    enum-told
+    refused-requires-2
+    same-length-2
+    returns-2
+    read-u32-requires
+    ranges-inside-requires
+    refused-requires-3
+    same-length-3
+    returns-3
+    carry-out-requires
+    same-length-4
+    returns-4)

@@ -1,0 +1,2 @@
+pub use Rattle.commands.proofs.device.deconfigure.Code.{routine}
+pub use Rattle.commands.proofs.device.deconfigure.Key.{name}

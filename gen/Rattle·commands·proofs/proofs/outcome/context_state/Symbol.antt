@@ -1,0 +1,2 @@
+pub use Rattle.commands.proofs.outcome.context_state.Code.{routine}
+pub use Rattle.commands.proofs.outcome.context_state.Key.{name}

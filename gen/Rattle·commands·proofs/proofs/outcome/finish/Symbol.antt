@@ -1,0 +1,2 @@
+pub use Rattle.commands.proofs.outcome.finish.Code.{routine}
+pub use Rattle.commands.proofs.outcome.finish.Key.{name}

@@ -1,0 +1,2 @@
+mod bit
+pub mod reach

@@ -1,0 +1,2 @@
+pub use Rattle.commands.proofs.reach.reach.Code.{routine}
+pub use Rattle.commands.proofs.reach.reach.Key.{name}
