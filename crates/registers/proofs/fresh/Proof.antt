@@ -1,0 +1,11 @@
+use Rattle.registers.proofs.fresh.Statement.{statement}
+use Rattle.registers.proofs.fresh.Tie as tie
+use Rattle.registers.proofs.fresh.Reads as reads
+use Rattle.registers.proofs.fresh.Lts as lts
+
+-- src/lib.rt:48:1
+returns : tie.Need-returns
+returns c = ?
+
+pub fresh-spec : {M : Type 1} → statement M
+fresh-spec = tie.close (tie.spec returns)
