@@ -78,7 +78,7 @@ module _ (P adds : ℕ) (m : Mem) where
   types-begin = checking-begins One (done (ok adds)) m 0 (setBits 31 1 adds)
 
   -- the turn at i
-  module _ {i : ℕ} {flag : Bool} (left : i < 32) (f : flag ≡ bit adds i) (t : CheckedTo i) where
+  module _ (i : ℕ) {flag : Bool} (left : i < 32) (f : flag ≡ bit adds i) (t : CheckedTo i) where
     pub type-skipped : flag ≡ false → CheckedTo (i + 1)
     type-skipped e = checking-skips One (done (ok adds)) t (flag-clear 32 i adds left (sym f ∙ e))
 
@@ -95,8 +95,8 @@ module _ (P adds : ℕ) (m : Mem) where
             codes = λ c e. let z : code ≡ c = cc in rw z at (j .codes n);
           }
 
-  pub types-end : {i : ℕ} → 32 ≤ i → CheckedTo i → ChecksTypes P adds m (Adds adds)
-  types-end {i} h t =
+  pub types-end : (i : ℕ) → 32 ≤ i → CheckedTo i → ChecksTypes P adds m (Adds adds)
+  types-end i h t =
       record {
         ends = record { ends = checking-ends One (done (ok adds)) t (flags-done 32 i adds h) ∙ run-done (ok adds) m 0 };
         flags = λ x e. cc;

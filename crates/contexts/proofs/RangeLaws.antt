@@ -26,6 +26,16 @@ unfolding bothInside
 both-fit len P base i e =
     record { input = inside-yes _ _ _ (and-left _ _ e); device = inside-yes _ _ _ (and-right (inside len (P ⊕ 32 * (i + 1)) 32) _ e) }
 
+-- as the code tests them, one after the other
+module _ (len P base i : ℕ) {input : ℕ} {first : Bool} (a : input ≡ P ⊕ 32 * (i + 1)) (f : first ≡ inside len input 32) where
+  pub input-outside : first ≡ false → false ≡ bothInside len P base i
+  unfolding bothInside
+  input-outside e = let out : inside len (P ⊕ 32 * (i + 1)) 32 ≡ false = rw a at (sym f ∙ e) in rw out
+
+  pub device-decides : {device : ℕ} {second : Bool} → first ≡ true → device ≡ base ⊕ 32 * i → second ≡ inside len device 32 → second ≡ bothInside len P base i
+  unfolding bothInside
+  device-decides e d g = let lies : inside len (P ⊕ 32 * (i + 1)) 32 ≡ true = rw a at (sym f ∙ e) in rw lies (rw d at g)
+
 -- the definition's check of them is this test
 range-ends : (len P base i : ℕ) (m : Mem) (s : ℕ) → Ends (needContexts len P base i) m s (cond (bothInside len P base i) (ok tt) (refuse 193)) m s
 unfolding needContexts bothInside need
@@ -62,7 +72,7 @@ module _ (len P base adds : ℕ) where
   ranges-begin = testing-begins (bothInside len P base) (setBits 30 2 adds)
 
   -- the turn at i
-  module _ {i : ℕ} {flag : Bool} (left : i < 32) (f : flag ≡ bit adds i) (t : Tested i) where
+  module _ (i : ℕ) {flag : Bool} (left : i < 32) (f : flag ≡ bit adds i) (t : Tested i) where
     pub range-skipped : flag ≡ false → Tested (i + 1)
     range-skipped e = testing-skips (bothInside len P base) t (flag-clear 32 i adds left (sym f ∙ e))
 
@@ -73,5 +83,5 @@ module _ (len P base adds : ℕ) where
       pub range-failed : good ≡ false → false ≡ rangesInside len P base adds
       range-failed e = sym (testing-fails (bothInside len P base) t (flag-set 32 i adds left (sym f ∙ set)) (sym g ∙ e))
 
-  pub ranges-end : {i : ℕ} → 32 ≤ i → Tested i → true ≡ rangesInside len P base adds
-  ranges-end {i} h t = testing-ends (bothInside len P base) t (flags-done 32 i adds h)
+  pub ranges-end : (i : ℕ) → 32 ≤ i → Tested i → true ≡ rangesInside len P base adds
+  ranges-end i h t = testing-ends (bothInside len P base) t (flags-done 32 i adds h)

@@ -1,6 +1,7 @@
 -- `contexts::ranges_inside` meets its contract. Assumes nothing.
 use Prim.Native.Nat.{_-_}
 use mathlib.Core.Logic.{⊎-elim}
+use native.Mathlib.Omega.{arith}
 use borrow.Author.Needs.{needs}
 use borrow.Author.Tests.{not-true, not-false}
 use Rattle.contexts.proofs.RangeLaws.{Tested, ranges-begin, range-skipped, range-passed, range-failed, ranges-end}
@@ -29,7 +30,7 @@ returns : tie.Need-returns Inv-loop μ-loop
 returns c =
     let a = c .before .before .before .before .before .before .args in
     let l = c .before .before .before .before in
-    range-failed (a .length) (a .pointer) (a .base) (a .adds) (l .loop-test .taken) (c .before .before .before .flag .ensures) (l .before .loop .inv) (c .before .before .if1 .taken) (c .before .both-inside .ensures) (not-true _ (c .if2 .taken))
+    range-failed (a .length) (a .pointer) (a .base) (a .adds) (l .before .loop .i) (omega arith) (c .before .before .before .flag .ensures) (l .before .loop .inv) (c .before .before .if1 .taken) (c .before .both-inside .ensures) (not-true _ (c .if2 .taken))
 
 add-i : tie.Need-add-i Inv-loop μ-loop
 add-i c = search needs
@@ -43,14 +44,14 @@ loop-again c =
     let l = c .before .before in
     let f = c .before .flag .ensures in
     ⊎-elim
-    (λ w. range-passed (a .length) (a .pointer) (a .base) (a .adds) (l .loop-test .taken) f (l .before .loop .inv) (w .0 .taken) (w .1 .ensures) (not-false _ (w .2 .left)))
-    (λ w. range-skipped (a .length) (a .pointer) (a .base) (a .adds) (l .loop-test .taken) f (l .before .loop .inv) (w .left))
+    (λ w. range-passed (a .length) (a .pointer) (a .base) (a .adds) (l .before .loop .i) (omega arith) f (l .before .loop .inv) (w .0 .taken) (w .1 .ensures) (not-false _ (w .2 .left)))
+    (λ w. range-skipped (a .length) (a .pointer) (a .base) (a .adds) (l .before .loop .i) (omega arith) f (l .before .loop .inv) (w .left))
     (c .if1 .came)
 
 returns-2 : tie.Need-returns-2 Inv-loop μ-loop
 returns-2 c =
     let a = c .before .before .args in
-    ranges-end (a .length) (a .pointer) (a .base) (a .adds) (c .loop-test .left) (c .before .loop .inv)
+    ranges-end (a .length) (a .pointer) (a .base) (a .adds) (c .before .loop .i) (omega arith) (c .before .loop .inv)
 
 pub ranges-inside-spec : {M : Type 1} → statement M
 ranges-inside-spec =

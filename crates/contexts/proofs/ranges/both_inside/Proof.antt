@@ -1,8 +1,7 @@
 -- `contexts::ranges::both_inside` meets its contract. Assumes nothing.
-use mathlib.Core.Path.{sym, _∙_}
 use borrow.Author.Tests.{not-true, not-false}
 use borrow.Author.Needs.{needs}
-use Rattle.contexts.specs.Ranges.{bothInside}
+use Rattle.contexts.proofs.RangeLaws.{input-outside, device-decides}
 use Rattle.contexts.proofs.ranges.both_inside.Statement.{statement}
 use Rattle.contexts.proofs.ranges.both_inside.Tie as tie
 
@@ -25,19 +24,17 @@ context-inside-requires : tie.Need-context-inside-requires
 context-inside-requires c κs = search needs
 
 returns : tie.Need-returns
-unfolding bothInside
 returns c =
-    let out = sym (c .before .context-inside .ensures) ∙ not-true _ (c .if1 .taken) in
-    rw (← c .before .before .before .plus .ensures, out)
+    let a = c .before .before .before .before .args in
+    input-outside (a .length) (a .pointer) (a .base) (a .i) (c .before .before .before .plus .ensures) (c .before .context-inside .ensures) (not-true _ (c .if1 .taken))
 
 context-inside-requires-2 : tie.Need-context-inside-requires-2
 context-inside-requires-2 c κs = search needs
 
 returns-2 : tie.Need-returns-2
-unfolding bothInside
 returns-2 c =
-    let lies = sym (c .before .before .context-inside .ensures) ∙ not-false _ (c .before .if1 .left) in
-    rw (← c .before .before .before .before .plus .ensures, ← c .before .before .before .plus2 .ensures, lies) (c .context-inside2 .ensures)
+    let a = c .before .before .before .before .before .args in
+    device-decides (a .length) (a .pointer) (a .base) (a .i) (c .before .before .before .before .plus .ensures) (c .before .before .context-inside .ensures) (not-false _ (c .before .if1 .left)) (c .before .before .before .plus2 .ensures) (c .context-inside2 .ensures)
 
 pub both-inside-spec : {M : Type 1} → statement M
 both-inside-spec =

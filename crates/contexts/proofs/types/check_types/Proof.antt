@@ -1,6 +1,7 @@
 -- `contexts::types::check_types` meets its contract. Assumes nothing.
 use Prim.Native.Nat.{_-_}
 use mathlib.Core.Logic.{⊎-elim}
+use native.Mathlib.Omega.{arith}
 use borrow.Author.Needs.{needs}
 use Rattle.contexts.proofs.CheckLaws.{CheckedTo, types-begin, type-skipped, type-passed, type-failed, types-end}
 use Rattle.contexts.proofs.types.check_types.Statement.{statement}
@@ -28,7 +29,7 @@ returns : tie.Need-returns Inv-loop μ-loop
 returns c =
     let a = c .before .before .before .before .before .before .before .args in
     let l = c .before .before .before .before in
-    type-failed (a .pointer) (a .adds) (a .mem .now) (l .loop-test .taken) (c .before .before .before .flag .ensures) (l .before .loop .inv) (c .before .before .if1 .taken) (c .before .check-type .ensures) (c .if2 .taken)
+    type-failed (a .pointer) (a .adds) (a .mem .now) (l .before .loop .i) (omega arith) (c .before .before .before .flag .ensures) (l .before .loop .inv) (c .before .before .if1 .taken) (c .before .check-type .ensures) (c .if2 .taken)
 
 add-i : tie.Need-add-i Inv-loop μ-loop
 add-i c = search needs
@@ -42,14 +43,14 @@ loop-again c =
     let l = c .before .before in
     let f = c .before .flag .ensures in
     ⊎-elim
-    (λ w. type-passed (a .pointer) (a .adds) (a .mem .now) (l .loop-test .taken) f (l .before .loop .inv) (w .0 .taken) (w .1 .ensures) (w .2 .left))
-    (λ w. type-skipped (a .pointer) (a .adds) (a .mem .now) (l .loop-test .taken) f (l .before .loop .inv) (w .left))
+    (λ w. type-passed (a .pointer) (a .adds) (a .mem .now) (l .before .loop .i) (omega arith) f (l .before .loop .inv) (w .0 .taken) (w .1 .ensures) (w .2 .left))
+    (λ w. type-skipped (a .pointer) (a .adds) (a .mem .now) (l .before .loop .i) (omega arith) f (l .before .loop .inv) (w .left))
     (c .if1 .came)
 
 returns-2 : tie.Need-returns-2 Inv-loop μ-loop
 returns-2 c =
     let a = c .before .before .before .args in
-    types-end (a .pointer) (a .adds) (a .mem .now) (c .loop-test .left) (c .before .loop .inv)
+    types-end (a .pointer) (a .adds) (a .mem .now) (c .before .loop .i) (omega arith) (c .before .loop .inv)
 
 pub check-types-spec : {M : Type 1} → statement M
 check-types-spec =
