@@ -81,8 +81,8 @@ fn inside(length: u64, address: u64, count: u64) -> bool
 fn in_use(slot: Slot, first: Endpoint, length: u64) -> bool
     ensures { λ r. ⌜ r ≡ inUse slot first length ⌝ }
 {
-    let state = first.state;
-    if endpoint_number(state) == 0 {
+    let first_state = first.state;
+    if endpoint_number(first_state) == 0 {
         return false;
     }
     inside(length, slot.base, 64)
