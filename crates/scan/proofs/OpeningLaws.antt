@@ -8,12 +8,12 @@ use native.Mathlib.Omega.{arith}
 use borrow.Author.Tests.{leb-true, eqb-true, not-true, eq-eqb}
 use lib.Dec.{leb, eqb}
 use Rattle.guest.specs.Prog.{Mem, Prog, done, Ran, run, Ends, choose, bind, Result, ok, refuse}
-use Rattle.guest.proofs.RunLaws.{run-done, choose-yes, choose-no, after, ends-done}
+use Rattle.guest.proofs.RunLaws.{run-done, choose-yes, choose-no, after}
 use Rattle.guest.proofs.ListLaws.{and-left, and-right}
 use Rattle.definition.specs.Table.{isFree, slotOf, lookup, wellFormed}
 use Rattle.definition.specs.Commands.{Told, formed, lent, found, onSlot}
 use Rattle.definition.specs.Calls.{told, counted, Meets}
-use Rattle.scan.specs.Types.{SlotState, Free, Enabled, Default, Addressed, Configured, Slot, Table, Lookup, Used, Nothing, Answer, Outcome}
+use Rattle.scan.specs.Types.{Free, Slot, Table, Lookup, Used, Nothing, Answer, Outcome}
 use Rattle.scan.specs.Heads.{judged, codeFor, headFor, refusal}
 use Rattle.scan.specs.declared.Head.{Head}
 
@@ -47,7 +47,7 @@ refuses-at-once t {p} {c} m e = refuses-with t (record { ends = ap (λ (q : Prog
 
 -- its program is another's, as past the checks
 pub meets-as : (t : Table) {p q : Prog (Result Told)} {m m′ : Mem} {r : Outcome} → p ≡ q → Meets (telling t q) m r m′ → Meets (telling t p) m r m′
-meets-as t {m = m} {m′ = m′} {r = r} e h = rw e h
+meets-as t e h = rw e h
 
 -- ---- a call that lends no memory: b is what `well_formed` gives
 

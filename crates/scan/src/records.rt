@@ -4,7 +4,7 @@ use definition::EndpointState;
 use definition::Slot;
 use definition::SlotState;
 ghost use mathlib.Core.Path.{_≡_};
-ghost use mathlib.Core.Bool.{Bool, cond};
+ghost use mathlib.Core.Bool.{cond};
 ghost use Prim.Native.Nat.{_≤_};
 ghost use lib.Dec.{eqb};
 ghost use Rattle.guest.specs.Bytes as bytes;
@@ -30,14 +30,14 @@ fn slot_number(state: SlotState) -> u64
     }
 }
 
-// The slot is free.
+// A slot in this state is free.
 pub fn is_free(state: SlotState) -> bool
     ensures { λ r. ⌜ r ≡ eqb (slotNumber state) 0 ⌝ }
 {
     slot_number(state) == 0
 }
 
-// The slot is past Enabled, and so has contexts.
+// A slot in this state is past Enabled, and so has contexts.
 pub fn has_contexts(state: SlotState) -> bool
     ensures { λ r. ⌜ r ≡ hasContexts state ⌝ }
 {
@@ -81,8 +81,8 @@ fn inside(length: u64, address: u64, count: u64) -> bool
 fn in_use(slot: Slot, first: Endpoint, length: u64) -> bool
     ensures { λ r. ⌜ r ≡ inUse slot first length ⌝ }
 {
-    let state = first.state;
-    if endpoint_number(state) == 0 {
+    let first_state = first.state;
+    if endpoint_number(first_state) == 0 {
         return false;
     }
     inside(length, slot.base, 64)

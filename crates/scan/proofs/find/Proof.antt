@@ -1,43 +1,34 @@
+-- `scan::find` meets its contract. Assumes nothing.
 use mathlib.Core.Path.{sym, _∙_}
 use native.Mathlib.Omega.{arith}
 use borrow.Author.Tests.{le-leb, lt-leb}
-use Rattle.scan.specs.Heads.{foundIn}
 use borrow.Author.Needs.{needs}
+use Rattle.scan.specs.Heads.{foundIn}
 use Rattle.scan.proofs.find.Statement.{statement}
 use Rattle.scan.proofs.find.Tie as tie
-use Rattle.scan.proofs.find.Reads as reads
-use Rattle.scan.proofs.find.Lts as lts
-use Rattle.scan.proofs.records.is_free.Reads as is-free-reads
 
--- src/lib.rt:68:9
 returns : tie.Need-returns
 unfolding foundIn
 returns c = rw (lt-leb 1 (c .before .args .id) (omega arith))
 
--- src/lib.rt:71:9
 returns-2 : tie.Need-returns-2
 unfolding foundIn
 returns-2 c =
     let a = c .before .before .args in
     rw (le-leb 1 (a .id) (omega arith), lt-leb (a .id) 16 (c .if2 .taken))
 
--- src/lib.rt:73:14
 sub-j : tie.Need-sub-j
 sub-j c = search needs
 
--- src/lib.rt:74:16
 mul-slot : tie.Need-mul-slot
 mul-slot c = search needs
 
--- src/lib.rt:74:16
 array-copy-out-slot : tie.Need-array-copy-out-slot
 array-copy-out-slot c = search needs
 
--- src/lib.rt:76:8
 is-free-requires : tie.Need-is-free-requires
 is-free-requires c κs = search needs
 
--- src/lib.rt:77:9
 returns-3 : tie.Need-returns-3
 unfolding foundIn
 returns-3 c =
@@ -45,7 +36,6 @@ returns-3 c =
     let a = d .before .before .args in
     simp (le-leb 1 (a .id) (omega arith), le-leb (a .id) 16 (d .if2 .left), sym (c .before .is-free .ensures) ∙ c .if3 .taken)
 
--- src/lib.rt:64:1
 returns-4 : tie.Need-returns-4
 unfolding foundIn
 returns-4 c =

@@ -1,18 +1,14 @@
+-- `scan::judge` meets its contract. Assumes nothing.
 use borrow.Author.Tests.{not-true, not-false, eq-eqb, ne-eqb}
 use Rattle.scan.proofs.judge.Statement.{statement}
 use Rattle.scan.proofs.judge.Tie as tie
-use Rattle.scan.proofs.judge.Reads as reads
-use Rattle.scan.proofs.judge.Lts as lts
 
--- src/lib.rt:95:9
 returns : tie.Need-returns
 returns c = simp (not-true (c .before .args .formed) (c .if1 .taken))
 
--- src/lib.rt:98:9
 returns-2 : tie.Need-returns-2
 returns-2 c = simp (not-false (c .before .before .args .formed) (c .before .if1 .left), ne-eqb _ _ (c .if2 .taken))
 
--- src/lib.rt:91:1
 returns-3 : tie.Need-returns-3
 returns-3 c = simp (not-false (c .before .before .args .formed) (c .before .if1 .left), eq-eqb _ _ (c .if2 .left))
 

@@ -1,19 +1,16 @@
-use mathlib.Core.Path.{_≡_, sym, ap, _∙_}
-use mathlib.Core.Bool.{Bool, true, _&&_}
+-- `scan::well_formed` meets its contract. Each loop's invariant: what was found so far, with what is left, is the whole test (`Scan`).
+-- Assumes nothing.
+use mathlib.Core.Path.{sym, _∙_}
+use mathlib.Core.Bool.{true}
 use Prim.Native.Nat.{_-_}
 use native.Mathlib.Omega.{arith}
 use borrow.Author.Needs.{needs}
 use borrow.Author.Tests.{not-true, not-false, eq-eqb, ne-eqb}
 use Rattle.definition.specs.Table.{endpointOf, slotOf, slotOk}
-use Rattle.scan.specs.Records.{recordOk, clear}
+use Rattle.scan.specs.Records.{clear}
 use Rattle.scan.proofs.ScanLaws.{scan-gathers, testOf, slot-bad, slot-is, Scan, scan-begins, scan-goes, scan-ends, scan-fails, over-limit, over-length, slots-decide}
 use Rattle.scan.proofs.well_formed.Statement.{statement}
 use Rattle.scan.proofs.well_formed.Tie as tie
-use Rattle.scan.proofs.well_formed.Reads as reads
-use Rattle.scan.proofs.well_formed.Lts as lts
-use Rattle.scan.proofs.records.faults_of.Reads as faults-of-reads
-use Rattle.scan.proofs.records.has_contexts.Reads as has-contexts-reads
-use Rattle.scan.proofs.records.slot_ok.Reads as slot-ok-reads
 
 abbrev Inv-loop2 : tie.InvT-loop2
 Inv-loop2 t length id j at used base flags₀ pointers₀ i₀ flags pointers i = Scan (testOf used length base t id) 32 i (clear flags pointers)
@@ -27,51 +24,39 @@ Inv-loop t length id₀ id = Scan (slotOk t) 17 id true
 abbrev μ-loop : tie.MeasureT-loop
 μ-loop t length id₀ id = 17 - id
 
--- src/lib.rt:27:9
 returns : tie.Need-returns Inv-loop2 μ-loop2 Inv-loop μ-loop
 returns c = over-limit (c .before .args .t1) (c .if1 .taken)
 
--- src/lib.rt:30:9
 returns-2 : tie.Need-returns-2 Inv-loop2 μ-loop2 Inv-loop μ-loop
 returns-2 c = over-length (c .before .before .args .t1) (c .before .if1 .left) (c .if2 .taken)
 
--- src/lib.rt:33:5
 loop-holds : tie.Need-loop-holds Inv-loop2 μ-loop2 Inv-loop μ-loop
 loop-holds c = scan-begins (slotOk (c .before .before .args .t1)) 17 (omega arith)
 
--- src/lib.rt:34:18
 sub-j : tie.Need-sub-j Inv-loop2 μ-loop2 Inv-loop μ-loop
 sub-j c = search needs
 
--- src/lib.rt:35:20
 mul-slot : tie.Need-mul-slot Inv-loop2 μ-loop2 Inv-loop μ-loop
 mul-slot c = search needs
 
--- src/lib.rt:35:20
 element-copy-out-slot : tie.Need-element-copy-out-slot Inv-loop2 μ-loop2 Inv-loop μ-loop
 element-copy-out-slot c = search needs
 
--- src/lib.rt:36:20
 sub-at : tie.Need-sub-at Inv-loop2 μ-loop2 Inv-loop μ-loop
 sub-at c = search needs
 
--- src/lib.rt:36:19
 mul-at : tie.Need-mul-at Inv-loop2 μ-loop2 Inv-loop μ-loop
 mul-at c = search needs
 
--- src/lib.rt:37:21
 mul-first : tie.Need-mul-first Inv-loop2 μ-loop2 Inv-loop μ-loop
 mul-first c = search needs
 
--- src/lib.rt:37:21
 element-copy-out-first : tie.Need-element-copy-out-first Inv-loop2 μ-loop2 Inv-loop μ-loop
 element-copy-out-first c = search needs
 
--- src/lib.rt:38:13
 slot-ok-requires : tie.Need-slot-ok-requires Inv-loop2 μ-loop2 Inv-loop μ-loop
 slot-ok-requires c κs = search needs
 
--- src/lib.rt:39:13
 returns-3 : tie.Need-returns-3 Inv-loop2 μ-loop2 Inv-loop μ-loop
 unfolding slotOf
 returns-3 c =
@@ -81,59 +66,47 @@ returns-3 c =
     (scan-fails (slotOk t) (l .loop .inv) (c .before .before .before .before .loop-test .taken)
     (slot-bad t (l .loop .id) (sym (c .before .slot-ok .ensures) ∙ not-true (c .before .slot-ok .result) (c .if3 .taken))))
 
--- src/lib.rt:42:13
 has-contexts-requires : tie.Need-has-contexts-requires Inv-loop2 μ-loop2 Inv-loop μ-loop
 has-contexts-requires c κs = search needs
 
--- src/lib.rt:47:9
 loop2-holds : tie.Need-loop2-holds Inv-loop2 μ-loop2 Inv-loop μ-loop
 loop2-holds c = scan-begins _ 32 (omega arith)
 
--- src/lib.rt:48:23
 sub-k : tie.Need-sub-k Inv-loop2 μ-loop2 Inv-loop μ-loop
 sub-k c = search needs
 
--- src/lib.rt:48:22
 mul-k : tie.Need-mul-k Inv-loop2 μ-loop2 Inv-loop μ-loop
 mul-k c = search needs
 
--- src/lib.rt:48:39
 sub-k-2 : tie.Need-sub-k-2 Inv-loop2 μ-loop2 Inv-loop μ-loop
 sub-k-2 c = search needs
 
--- src/lib.rt:48:22
 add-k : tie.Need-add-k Inv-loop2 μ-loop2 Inv-loop μ-loop
 add-k c = search needs
 
--- src/lib.rt:49:21
 mul-e : tie.Need-mul-e Inv-loop2 μ-loop2 Inv-loop μ-loop
 mul-e c = search needs
 
--- src/lib.rt:49:21
 element-copy-out-e : tie.Need-element-copy-out-e Inv-loop2 μ-loop2 Inv-loop μ-loop
 element-copy-out-e c = search needs
 
--- src/lib.rt:50:17
 faults-of-requires : tie.Need-faults-of-requires Inv-loop2 μ-loop2 Inv-loop μ-loop
 faults-of-requires c κs = search needs
 
--- src/lib.rt:53:13
 add-i : tie.Need-add-i Inv-loop2 μ-loop2 Inv-loop μ-loop
 add-i c = search needs
 
--- src/lib.rt:47:9
 loop2-less : tie.Need-loop2-less Inv-loop2 μ-loop2 Inv-loop μ-loop
 loop2-less c = search needs
 
--- src/lib.rt:47:9
 loop2-again : tie.Need-loop2-again Inv-loop2 μ-loop2 Inv-loop μ-loop
 unfolding endpointOf
 loop2-again c =
-    let g = c .before .before .before .before .before in
-    let w = c .before .before .faults-of in
-    scan-gathers _ (g .loop2 .flags) (g .loop2 .pointers) (w .result .flags) (w .result .pointer) (g .loop2 .inv) (c .before .before .before .before .loop2-test .taken) (w .ensures)
+    let w = c .before .before in
+    let g = w .before .before .before in
+    scan-gathers _ (g .loop2 .flags) (g .loop2 .pointers) (w .faults-of .result .flags) (w .faults-of .result .pointer)
+    (g .loop2 .inv) (w .before .before .loop2-test .taken) (w .faults-of .ensures)
 
--- src/lib.rt:56:13
 returns-4 : tie.Need-returns-4 Inv-loop2 μ-loop2 Inv-loop μ-loop
 unfolding slotOf
 returns-4 c =
@@ -146,15 +119,12 @@ returns-4 c =
     (slot-is t (l .loop .id) (g .loop2 .flags) (g .loop2 .pointers) (g .before .has-contexts .ensures) (sym (o .slot-ok .ensures) ∙ not-false (o .slot-ok .result) (g .before .before .if3 .left)) (g .loop2 .inv) (c .before .loop2-test .left)
     ∙ ne-eqb _ _ (c .if4 .taken)))
 
--- src/lib.rt:58:9
 add-id : tie.Need-add-id Inv-loop2 μ-loop2 Inv-loop μ-loop
 add-id c = search needs
 
--- src/lib.rt:33:5
 loop-less : tie.Need-loop-less Inv-loop2 μ-loop2 Inv-loop μ-loop
 loop-less c = search needs
 
--- src/lib.rt:33:5
 loop-again : tie.Need-loop-again Inv-loop2 μ-loop2 Inv-loop μ-loop
 unfolding slotOf
 loop-again c =
@@ -166,7 +136,6 @@ loop-again c =
     (sym (slot-is t (l .loop .id) (g .loop2 .flags) (g .loop2 .pointers) (g .before .has-contexts .ensures) (sym (o .slot-ok .ensures) ∙ not-false (o .slot-ok .result) (g .before .before .if3 .left)) (g .loop2 .inv) (c .before .loop2-test .left)
     ∙ eq-eqb _ _ (c .if4 .left)))
 
--- src/lib.rt:22:1
 returns-5 : tie.Need-returns-5 Inv-loop2 μ-loop2 Inv-loop μ-loop
 returns-5 c =
     let l = c .before in

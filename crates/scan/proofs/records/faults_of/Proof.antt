@@ -1,38 +1,28 @@
-use mathlib.Core.Path.{_≡_, sym, _∙_}
+-- `scan::records::faults_of` meets its contract. Assumes nothing.
+use mathlib.Core.Path.{_≡_}
 use mathlib.Core.Bool.{true, false}
 use Prim.Native.Nat.{_*_}
 use borrow.Author.Tests.{not-true, not-false, eq-eqb, ne-eqb}
+use borrow.Author.Needs.{needs}
 use Rattle.guest.specs.Bytes.{_⊕_, inside}
 use Rattle.definition.specs.Table.{isDisabled, endpointOk}
 use Rattle.scan.specs.Records.{recordOk}
-use borrow.Author.Needs.{needs}
 use Rattle.scan.proofs.records.faults_of.Statement.{statement}
 use Rattle.scan.proofs.records.faults_of.Tie as tie
-use Rattle.scan.proofs.records.faults_of.Reads as reads
-use Rattle.scan.proofs.records.faults_of.Lts as lts
-use Rattle.guest.proofs.address.plus.Reads as plus-reads
-use Rattle.scan.proofs.records.endpoint_number.Reads as endpoint-number-reads
-use Rattle.scan.proofs.records.inside.Reads as inside-reads
-use Rattle.scan.proofs.records.nonzero.Reads as nonzero-reads
 
--- src/records.rt:127:9
 nonzero-requires : tie.Need-nonzero-requires
 nonzero-requires c κs = search needs
 
--- src/records.rt:127:9
 returns : tie.Need-returns
 unfolding recordOk
 returns c = simp (not-true (c .before .before .args .contexts) (c .before .if1 .taken)) (c .nonzero .ensures)
 
--- src/records.rt:130:8
 endpoint-number-requires : tie.Need-endpoint-number-requires
 endpoint-number-requires c κs = search needs
 
--- src/records.rt:131:9
 nonzero-requires-2 : tie.Need-nonzero-requires-2
 nonzero-requires-2 c κs = search needs
 
--- src/records.rt:131:9
 returns-2 : tie.Need-returns-2
 unfolding recordOk endpointOk
 returns-2 c =
@@ -40,19 +30,15 @@ returns-2 c =
     let off : isDisabled (a .e) ≡ true = rw (← c .before .before .endpoint-number .ensures) (eq-eqb _ _ (c .before .if2 .taken)) in
     simp (not-false (a .contexts) (c .before .before .before .if1 .left), off) (c .nonzero2 .ensures)
 
--- src/records.rt:133:41
 mul-plus : tie.Need-mul-plus
 mul-plus c = search needs
 
--- src/records.rt:133:9
 plus-requires : tie.Need-plus-requires
 plus-requires c κs = search needs
 
--- src/records.rt:134:8
 inside-requires : tie.Need-inside-requires
 inside-requires c κs = search needs
 
--- src/records.rt:135:9
 returns-3 : tie.Need-returns-3
 unfolding recordOk endpointOk
 returns-3 c =
@@ -62,7 +48,6 @@ returns-3 c =
     let here : inside (a .length) (a .base ⊕ 32 * a .i) 32 ≡ true = rw (← d .plus .ensures, ← c .before .before .inside .ensures) (c .before .if3 .taken) in
     simp (not-false (a .contexts) (d .before .before .before .if1 .left), on, here)
 
--- src/records.rt:122:1
 returns-4 : tie.Need-returns-4
 unfolding recordOk endpointOk
 returns-4 c =
