@@ -1,17 +1,16 @@
 -- Laws of the walk over all slots: each slot's endpoints are terminated, and the slot is freed.
 -- Assumes nothing.
-use mathlib.Core.Path.{_≡_, refl, _∙_}
-use mathlib.Core.List.{List}
+use mathlib.Core.Path.{_≡_}
 use Prim.Native.Nat.{ℕ, _+_, _-_, _*_, _≤_, _<_}
 use native.Mathlib.Omega.{arith}
 use lib.ListN.{length}
 use Rattle.guest.specs.Bytes.{_⊕_, count}
-use Rattle.guest.specs.Prog.{Mem, Prog, done, bind, Ends}
+use Rattle.guest.specs.Prog.{Mem, Prog, done, bind}
 use Rattle.guest.proofs.LoopLaws.{Loop, loop-begins, loop-goes, loop-ends}
 use Rattle.guest.proofs.ListLaws.{count-first, count-none}
 use Rattle.definition.specs.declared.Table.{Table}
 use Rattle.definition.specs.Table.{free, endpointOf, slotOf, withEndpoint, withSlot}
-use Rattle.definition.specs.Walks.{Walk, terminate, terminateAll}
+use Rattle.definition.specs.Walks.{terminate, terminateAll}
 use Rattle.definition.specs.Commands.{freeing}
 use Rattle.definition.proofs.TableLaws.{endpoint-elsewhere, endpoint-slot, slot-endpoint, slot-other}
 use Rattle.endpoint.specs.Promises.{Terminates}

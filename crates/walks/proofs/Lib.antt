@@ -1,4 +1,4 @@
 pub mod WalkLaws
 pub mod LaunchLaws
 pub mod FreeLaws
-pub mod RoomLaws
+pub mod CallerLaws

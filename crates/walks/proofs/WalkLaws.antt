@@ -13,10 +13,8 @@ use Rattle.guest.specs.Prog.{Mem, Prog, done, bind, Ends}
 use Rattle.guest.proofs.RunLaws.{after, run-done, ends-from}
 use Rattle.guest.proofs.LoopLaws.{Loop, loop-begins, loop-goes, loop-skips, loop-ends}
 use Rattle.guest.proofs.ListLaws.{count-first, count-none, those-yes, those-no}
-use Rattle.definition.specs.declared.Endpoint.{Endpoint}
 use Rattle.definition.specs.declared.Table.{Table}
 use Rattle.definition.specs.Table.{isDisabled, endpointOf, withEndpoint}
-use Rattle.definition.specs.Steps.{terminateAt}
 use Rattle.definition.specs.Walks.{Walk, begin, ended, terminate, terminateAll}
 use Rattle.definition.proofs.TableLaws.{endpoint-other}
 use Rattle.endpoint.specs.Promises.{Terminates}

@@ -72,6 +72,7 @@ pub fn end_one(e: Endpoint, mem: &mut [u8], base: u64, i: u64) -> Terminated
 // The endpoint context at `from` is copied to endpoint i, and the endpoint is launched: 33 bytes stored.
 // The context is read whole before it is stored, and the root port is read after that.
 pub fn copy_launch(mem: &mut [u8], base: u64, from: usize, i: u64) -> Launched
+    requires { ⌜ i ≤ 31 ⌝ }
     requires { ⌜ Space base from i (length (now mem)) ⌝ }
     ensures { λ r. ⌜ CopyLaunches base from i (now (mem .entry)) r (now (mem .exit)) ⌝ }
 {
@@ -146,14 +147,7 @@ pub fn terminate_flagged(t: Table, mem: &mut [u8], id: u64, base: u64, drops: u3
 
 // The endpoints of slot id past the first whose add flag is set are copied from the input context at `pointer` and
 // launched, ascending. One that is enabled is replaced.
-pub fn add_flagged(
-    t: Table,
-    mem: &mut [u8],
-    id: u64,
-    pointer: u64,
-    base: u64,
-    adds: u32,
-) -> Added
+pub fn add_flagged(t: Table, mem: &mut [u8], id: u64, pointer: u64, base: u64, adds: u32) -> Added
     requires { ⌜ (1 ≤ id) × (id ≤ 16) ⌝ }
     requires { ⌜ Spaces pointer base adds (length (now mem)) ⌝ }
     ensures { λ r. ⌜ AddsAll id pointer base (setBits 30 2 adds) t (now (mem .entry)) r (now (mem .exit)) ⌝ }
@@ -216,8 +210,5 @@ pub fn free_all(t: Table, mem: &mut [u8]) -> Freed
         u.slots[(id - 1) as usize] = FREE;
         id += 1;
     }
-    Freed {
-        table: u,
-        stored,
-    }
+    Freed { table: u, stored }
 }
