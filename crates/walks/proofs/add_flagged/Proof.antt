@@ -1,7 +1,7 @@
 -- `walks::add_flagged` meets its contract. Assumes nothing.
 use mathlib.Core.Path.{sym, _∙_}
 use mathlib.Core.Logic.{⊎-elim}
-use Prim.Native.Nat.{_-_, _≤_}
+use Prim.Native.Nat.{_-_}
 use native.Mathlib.Omega.{arith}
 use Rattle.definition.specs.Table.{withEndpoint}
 use Rattle.walks.proofs.LaunchLaws.{Adding, adding-begins, adding-goes, adding-skips, adding-ends}
@@ -33,8 +33,7 @@ copy-launch-requires : tie.Need-copy-launch-requires Inv-loop μ-loop
 copy-launch-requires c κs =
     let l = c .before .before .before .before .before .loop in
     let on = sym (c .before .before .before .flag .ensures) ∙ c .before .before .if1 .taken in
-    let h : l .i ≤ 31 = omega arith in
-    (h, rw (c .before .context-at .ensures, l .inv .size) (c .before .before .before .before .before .before .before .pre .1 (l .i) (l .inv .low) h on))
+    (omega arith, rw (c .before .context-at .ensures, l .inv .size) (c .before .before .before .before .before .before .before .pre .1 (l .i) (l .inv .low) (omega arith) on))
 
 sub-k : tie.Need-sub-k Inv-loop μ-loop
 sub-k c = omega arith

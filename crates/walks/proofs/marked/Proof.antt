@@ -1,5 +1,6 @@
 -- `walks::marked` meets its contract. Assumes nothing.
 use mathlib.Core.Path.{refl}
+use native.Mathlib.Omega.{arith}
 use borrow.Author.Needs.{needs}
 use Rattle.walks.proofs.WalkLaws.{mask-shift, mask-fits}
 use Rattle.walks.proofs.marked.Statement.{statement}
@@ -11,7 +12,7 @@ shl-result c = search needs
 add-result : tie.Need-add-result
 add-result c =
     let a = c .args in
-    rw (mask-shift (a .i) (a .one) (c .pre .0) (c .pre .2)) (record { fits = mask-fits (a .i) (a .mask) (a .one) (c .pre .0) (c .pre .1) (c .pre .2) })
+    omega (arith, mask-shift (a .i) (a .one) (c .pre .0) (c .pre .2), mask-fits (a .i) (a .mask) (a .one) (c .pre .0) (c .pre .1) (c .pre .2))
 
 returns : tie.Need-returns
 returns c = rw (mask-shift (c .args .i) (c .args .one) (c .pre .0) (c .pre .2)) refl
