@@ -4,10 +4,8 @@ use mathlib.Core.Path.{_≡_}
 use mathlib.Core.Bool.{true, false}
 use mathlib.Core.List.{List}
 use Prim.Native.Nat.{ℕ, _+_, _*_, _^_, _≤_, _<_}
-use lib.ListN.{length}
 use Rattle.guest.specs.Bytes.{number, _⊕_, count, bit}
 use Rattle.guest.specs.Prog.{Mem, Prog, done, get, put, bind, each, Ends}
-use Rattle.definition.specs.declared.Endpoint.{Endpoint}
 use Rattle.definition.specs.declared.Table.{Table}
 use Rattle.definition.specs.Table.{isDisabled, endpointOf, slotOf}
 use Rattle.definition.specs.Steps.{launchAt}
@@ -18,6 +16,7 @@ use Rattle.walks.specs.declared.Launched.{Launched}
 use Rattle.walks.specs.declared.Added.{Added}
 use Rattle.walks.specs.declared.Freed.{Freed}
 
+-- a command on its way, by its parts
 abbrev pub walk : Table → ℕ → ℕ → ℕ → Walk
 walk t launched terminated port = record { table = t; launched = launched; terminated = terminated; port = port }
 
@@ -42,9 +41,8 @@ copyLaunchAt base c i =
     put (base ⊕ 32 * i) context
     (get (base + 6) 1 λ port. bind (launchAt (base ⊕ 32 * i)) λ e. done (record { endpoint = e; port = number port }))
 
--- both contexts of endpoint i, one of them at c, and the device context's first 64 bytes lie in a memory of len bytes
+-- what a copy and launch of endpoint i touches lies in a memory of len bytes: both contexts, and the device context's first 64 bytes
 pub record Space (base c i len : ℕ) : Type 0 where
-  pub low : i ≤ 31
   pub input : c + 32 ≤ len
   pub output : (base ⊕ 32 * i) + 32 ≤ len
   pub head : base + 64 ≤ len
@@ -54,7 +52,7 @@ pub record CopyLaunches (base c i : ℕ) (m : Mem) (r : Launched) (m′ : Mem) :
   pub ends : Ends (copyLaunchAt base c i) m 0 r m′ 33
   pub byte : r .port < 256
 
--- each endpoint past the first whose add flag is set has space for its copy from the input context at P
+-- each endpoint past the first whose add flag is set has that space, its input context being block i + 1 from P on
 abbrev pub Spaces : ℕ → ℕ → ℕ → ℕ → Type 0
 Spaces P base adds len = (i : ℕ) → 2 ≤ i → i ≤ 31 → bit adds i ≡ true → Space base (P ⊕ 32 * (i + 1)) i len
 

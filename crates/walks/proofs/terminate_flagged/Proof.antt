@@ -1,3 +1,4 @@
+-- `walks::terminate_flagged` meets its contract. Assumes nothing.
 use mathlib.Core.Path.{sym, _∙_}
 use mathlib.Core.Logic.{⊎-elim}
 use Prim.Native.Nat.{_-_}
@@ -8,11 +9,6 @@ use Rattle.walks.proofs.WalkLaws.{Ending, ending-begins, ending-goes, e
 use Rattle.guest.proofs.BitLaws.{flag-set, flag-clear, flags-done}
 use Rattle.walks.proofs.terminate_flagged.Statement.{statement}
 use Rattle.walks.proofs.terminate_flagged.Tie as tie
-use Rattle.walks.proofs.terminate_flagged.Reads as reads
-use Rattle.walks.proofs.terminate_flagged.Lts as lts
-use Rattle.guest.proofs.bits.flag.Reads as flag-reads
-use Rattle.walks.proofs.end_one.Reads as end-one-reads
-use Rattle.walks.proofs.marked.Reads as marked-reads
 
 abbrev Inv-loop : tie.InvT-loop
 Inv-loop mem₀ id base drops u₀ terminated₀ stored₀ i₀ mem u terminated stored i = Ending id base 2 (setBits 30 2 drops) u₀ mem₀ 0 (setBits (32 - i) i drops) i u terminated mem stored
@@ -20,79 +16,63 @@ Inv-loop mem₀ id base drops u₀ terminated₀ stored₀ i₀ mem u terminated
 abbrev μ-loop : tie.MeasureT-loop
 μ-loop mem₀ id base drops u₀ terminated₀ stored₀ i₀ mem u terminated stored i = 32 - i
 
--- src/lib.rt:128:5
 loop-holds : tie.Need-loop-holds Inv-loop μ-loop
 loop-holds c = ending-begins _ _ _ _ _ _ _ (omega arith) (c .before .pre .1)
 
--- src/lib.rt:129:37
 cast-flag : tie.Need-cast-flag Inv-loop μ-loop
 cast-flag c = omega arith
 
--- src/lib.rt:129:12
 flag-requires : tie.Need-flag-requires Inv-loop μ-loop
 flag-requires c κs = omega arith
 
--- src/lib.rt:130:23
 sub-k : tie.Need-sub-k Inv-loop μ-loop
 sub-k c = omega arith
 
--- src/lib.rt:130:22
 mul-k : tie.Need-mul-k Inv-loop μ-loop
 mul-k c = omega arith
 
--- src/lib.rt:130:39
 sub-k-2 : tie.Need-sub-k-2 Inv-loop μ-loop
 sub-k-2 c = omega (arith, c .before .before .before .loop .inv .low)
 
--- src/lib.rt:130:22
 add-k : tie.Need-add-k Inv-loop μ-loop
 add-k c = omega (arith, c .before .before .before .loop .inv .low)
 
--- src/lib.rt:131:21
 mul-e : tie.Need-mul-e Inv-loop μ-loop
 mul-e c = omega (arith, c .before .before .before .loop .inv .low)
 
--- src/lib.rt:131:21
 element-copy-out-e : tie.Need-element-copy-out-e Inv-loop μ-loop
 element-copy-out-e c = omega (arith, c .before .before .before .loop .inv .low)
 
--- src/lib.rt:132:17
 end-one-requires : tie.Need-end-one-requires Inv-loop μ-loop
 unfolding endpointOf
 end-one-requires c κs =
     let l = c .before .before .before .before .before .loop in
     (omega arith, λ d. rw (l .inv .loop .size) (l .inv .rooms (l .i) (omega arith) (omega arith) d))
 
--- src/lib.rt:134:13
 mul-dropped : tie.Need-mul-dropped Inv-loop μ-loop
 mul-dropped c = omega (arith, c .before .before .before .before .before .before .before .before .before .loop .inv .low)
 
--- src/lib.rt:134:13
 element-set-from-dropped : tie.Need-element-set-from-dropped Inv-loop μ-loop
 element-set-from-dropped c = omega (arith, c .before .before .before .before .before .before .before .before .before .loop .inv .low)
 
--- src/lib.rt:135:13
 marked-requires : tie.Need-marked-requires Inv-loop μ-loop
 marked-requires c κs =
     let one = c .before .before .before in
     (omega arith, one .before .before .before .before .before .before .loop .inv .fits, one .end-one .ensures .few)
 
--- src/lib.rt:136:13
 add-stored : tie.Need-add-stored Inv-loop μ-loop
 add-stored c =
     let one = c .before .before .before .before .before in
     let g = one .before .before .before .before .before .before .loop .inv in
     omega (arith, g .few, g .high, one .end-one .ensures .few)
 
--- src/lib.rt:138:9
 add-i : tie.Need-add-i Inv-loop μ-loop
 add-i c = omega arith
 
--- src/lib.rt:128:5
 loop-less : tie.Need-loop-less Inv-loop μ-loop
 loop-less c = omega arith
 
--- src/lib.rt:128:5
+-- where the flag is set, w .3 is the call of `end_one` and w .7 that of `marked`; the last four of w say what the locals became
 loop-again : tie.Need-loop-again Inv-loop μ-loop
 unfolding endpointOf withEndpoint
 loop-again c =
@@ -106,11 +86,9 @@ loop-again c =
     rw (w .1, w .2, w .3, w .4)
     (ending-skips (l .inv) (omega arith) (flag-clear 32 (l .i) drops (omega arith) (sym (c .before .flag .ensures) ∙ w .0 .left)))) (c .if1 .came)
 
--- src/lib.rt:119:1
 same-length : tie.Need-same-length Inv-loop μ-loop
 same-length c = c .before .loop .inv .loop .size
 
--- src/lib.rt:119:1
 returns : tie.Need-returns Inv-loop μ-loop
 returns c = ending-ends (c .before .loop .inv) (flags-done 32 _ _ (omega arith))
 

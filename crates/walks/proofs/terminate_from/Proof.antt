@@ -1,18 +1,12 @@
-use mathlib.Core.Path.{sym, ap, _∙_}
-use mathlib.Core.List.{[]}
-use Prim.Native.Nat.{_-_, _+_}
+-- `walks::terminate_from` meets its contract. Assumes nothing.
+use Prim.Native.Nat.{_-_}
 use native.Mathlib.Omega.{arith}
-use borrow.Author.Needs.{needs}
 use Rattle.guest.specs.Bytes.{count}
 use Rattle.guest.proofs.ListLaws.{count-first, count-none}
 use Rattle.definition.specs.Table.{endpointOf, withEndpoint}
 use Rattle.walks.proofs.WalkLaws.{Ending, ending-begins, ending-goes, ending-ends}
 use Rattle.walks.proofs.terminate_from.Statement.{statement}
 use Rattle.walks.proofs.terminate_from.Tie as tie
-use Rattle.walks.proofs.terminate_from.Reads as reads
-use Rattle.walks.proofs.terminate_from.Lts as lts
-use Rattle.walks.proofs.end_one.Reads as end-one-reads
-use Rattle.walks.proofs.marked.Reads as marked-reads
 
 abbrev Inv-loop : tie.InvT-loop
 Inv-loop mem₀ id base lo u₀ terminated₀ stored₀ i₀ mem u terminated stored i = Ending id base lo (count (32 - lo) lo) u₀ mem₀ 0 (count (32 - i) i) i u terminated mem stored
@@ -20,70 +14,55 @@ Inv-loop mem₀ id base lo u₀ terminated₀ stored₀ i₀ mem u terminated st
 abbrev μ-loop : tie.MeasureT-loop
 μ-loop mem₀ id base lo u₀ terminated₀ stored₀ i₀ mem u terminated stored i = 32 - i
 
--- src/lib.rt:101:5
 loop-holds : tie.Need-loop-holds Inv-loop μ-loop
 loop-holds c = ending-begins _ _ _ _ _ _ _ (c .before .pre .0 .3) (c .before .pre .1)
 
--- src/lib.rt:102:19
 sub-k : tie.Need-sub-k Inv-loop μ-loop
 sub-k c = omega arith
 
--- src/lib.rt:102:18
 mul-k : tie.Need-mul-k Inv-loop μ-loop
 mul-k c = omega arith
 
--- src/lib.rt:102:35
 sub-k-2 : tie.Need-sub-k-2 Inv-loop μ-loop
 sub-k-2 c = omega (arith, c .before .loop .inv .low)
 
--- src/lib.rt:102:18
 add-k : tie.Need-add-k Inv-loop μ-loop
 add-k c = omega (arith, c .before .loop .inv .low)
 
--- src/lib.rt:103:17
 mul-e : tie.Need-mul-e Inv-loop μ-loop
 mul-e c = omega (arith, c .before .loop .inv .low)
 
--- src/lib.rt:103:17
 element-copy-out-e : tie.Need-element-copy-out-e Inv-loop μ-loop
 element-copy-out-e c = omega (arith, c .before .loop .inv .low)
 
--- src/lib.rt:104:13
 end-one-requires : tie.Need-end-one-requires Inv-loop μ-loop
 unfolding endpointOf
 end-one-requires c κs =
     let l = c .before .before .before .loop in
     (omega arith, λ d. rw (l .inv .loop .size) (l .inv .rooms (l .i) (omega arith) (omega arith) d))
 
--- src/lib.rt:106:9
 mul-gone : tie.Need-mul-gone Inv-loop μ-loop
 mul-gone c = omega (arith, c .before .before .before .before .before .before .before .loop .inv .low)
 
--- src/lib.rt:106:9
 element-set-from-gone : tie.Need-element-set-from-gone Inv-loop μ-loop
 element-set-from-gone c = omega (arith, c .before .before .before .before .before .before .before .loop .inv .low)
 
--- src/lib.rt:107:9
 marked-requires : tie.Need-marked-requires Inv-loop μ-loop
 marked-requires c κs =
-    let before = c .before .before .before in
-    (omega arith, before .before .before .before .before .loop .inv .fits, before .end-one .ensures .few)
+    let one = c .before .before .before in
+    (omega arith, one .before .before .before .before .loop .inv .fits, one .end-one .ensures .few)
 
--- src/lib.rt:108:9
 add-stored : tie.Need-add-stored Inv-loop μ-loop
 add-stored c =
     let g = c .before .before .before .before .before .before .before .before .before .loop .inv in
     omega (arith, g .few, g .high, c .before .before .before .before .before .end-one .ensures .few)
 
--- src/lib.rt:109:9
 add-i : tie.Need-add-i Inv-loop μ-loop
 add-i c = omega arith
 
--- src/lib.rt:101:5
 loop-less : tie.Need-loop-less Inv-loop μ-loop
 loop-less c = omega arith
 
--- src/lib.rt:101:5
 loop-again : tie.Need-loop-again Inv-loop μ-loop
 unfolding endpointOf withEndpoint
 loop-again c =
@@ -92,11 +71,9 @@ loop-again c =
     rw (c .before .marked .ensures)
     (ending-goes (l .inv) (one .before .before .before .before .before .before .pre .0 .2) (omega arith) (count-first 32 (l .i) (omega arith)) (one .end-one .ensures) (one .end-one .kept .1 .0))
 
--- src/lib.rt:92:1
 same-length : tie.Need-same-length Inv-loop μ-loop
 same-length c = c .before .loop .inv .loop .size
 
--- src/lib.rt:92:1
 returns : tie.Need-returns Inv-loop μ-loop
 returns c = ending-ends (c .before .loop .inv) (count-none _ _ (omega arith))
 
