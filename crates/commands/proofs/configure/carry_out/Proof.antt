@@ -1,3 +1,4 @@
+use Rattle.commands.proofs.ConfigureLaws.{spaces-kept, walk-carried}
 use borrow.Author.Needs.{needs}
 use Rattle.commands.proofs.configure.carry_out.Statement.{statement}
 use Rattle.commands.proofs.configure.carry_out.Tie as tie
@@ -13,7 +14,11 @@ terminate-flagged-requires c κs = search needs
 
 -- src/configure.rt:39:9
 add-flagged-requires : tie.Need-add-flagged-requires
-add-flagged-requires c κs = ?
+add-flagged-requires c κs =
+    let b = c .before .before .before in
+    let a = b .before .before .before .args in
+    let p = b .before .before .before .pre in
+    ((p .0 .low, p .0 .high), spaces-kept (a .id) (a .pointer) (a .drops) (a .adds) (a .slot) (a .t) (b .terminate-flagged .ensures) (p .1 .1))
 
 -- src/configure.rt:50:21
 add-t18 : tie.Need-add-t18
@@ -29,7 +34,11 @@ same-length c = search needs
 
 -- src/configure.rt:23:1
 returns : tie.Need-returns
-returns c = ?
+returns c =
+    let e = c .before .before .before .before .before .before .before .before in
+    let b = e .before .before .before .before in
+    let a = b .before .before .before .args in
+    walk-carried (a .id) (a .pointer) (a .drops) (a .adds) (a .slot) (a .t) (b .terminate-flagged .ensures) (e .add-flagged .ensures) (c .before .before .finish .ensures)
 
 pub carry-out-spec : {M : Type 1} → statement M
 carry-out-spec =
