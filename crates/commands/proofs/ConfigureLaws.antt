@@ -2,11 +2,12 @@
 -- Assumes nothing.
 use mathlib.Core.Path.{_≡_, refl, sym, ap, _∙_}
 use mathlib.Core.Bool.{Bool, true, false}
-use Prim.Native.Nat.{ℕ, _+_, _*_, _≤_}
+use mathlib.Core.List.{List}
+use Prim.Native.Nat.{ℕ, _+_}
 use native.Mathlib.Omega.{arith}
 use lib.ListN.{length}
-use Rattle.guest.specs.Bytes.{number, _⊕_, located, setBits}
-use Rattle.guest.specs.Prog.{Mem, Prog, done, get, block, run, Ends, bind, Result, ok, refuse, need, every}
+use Rattle.guest.specs.Bytes.{number, located, setBits}
+use Rattle.guest.specs.Prog.{Mem, Prog, done, block, run, bind, Result, refuse, every}
 use Rattle.guest.specs.declared.Located.{Located}
 use Rattle.guest.specs.declared.Located.the-variants.{At, Outside}
 use Rattle.guest.proofs.RunLaws.{run-done, run-get, inside-yes, inside-no, need-yes, need-no, located-at, located-outside, after, ends-from}
@@ -15,9 +16,10 @@ use Rattle.definition.specs.Walks.{begin}
 use Rattle.definition.specs.Commands as commands
 use Rattle.definition.specs.Commands.{Told, usbTypes, settled, finish, deconfigure, needContexts, addAll, dropAndAdd, reconfigure}
 use Rattle.definition.specs.Calls.{configureEndpoint, meaning, prog}
-use Rattle.definition.specs.Rules.{Opened}
+use Rattle.definition.specs.Rules.{Settled, isAddressed, isConfigured, Opened}
 use Rattle.definition.proofs.HeadLaws.{slot-opens}
-use Rattle.definition.proofs.FormedFacts.{InUse, Fits, formed-fits}
+use Rattle.definition.proofs.FormedFacts.{clash, InUse, Fits, formed-fits}
+use Rattle.definition.proofs.ConfigureLaws.{settled-is}
 use Rattle.contexts.specs.declared.Checked.{Checked}
 use Rattle.contexts.specs.declared.Checked.the-variants.{Adds, Refused}
 use Rattle.contexts.specs.Checks.{Checks}
@@ -35,27 +37,30 @@ use Rattle.commands.specs.Promises.{Carries, Answers, Settles, Based, is
 
 -- ---- the walk
 
-module _ (id P drops adds : ℕ) (s : Slot) (t : Table) {m m₁ : Mem} {w : Ended} (d : TerminatesAll id (s .base) (setBits 30 2 drops) 30 t m w m₁) where
+module _ {id base : ℕ} {drops : List ℕ} {t : Table} {m m₁ : Mem} {w : Ended} (d : TerminatesAll id base drops 30 t m w m₁) where
   -- the drops keep memory's length, so the adds still have space
-  pub spaces-kept : Spaces P (s .base) adds (length m) → Spaces P (s .base) adds (length m₁)
-  spaces-kept h i a b f =
+  pub spaces-kept : (P adds : ℕ) → Spaces P base adds (length m) → Spaces P base adds (length m₁)
+  spaces-kept P adds h i a b f =
       let e : length m₁ ≡ length m = ap (λ x. length (x .memory)) (sym (d .ends .ends)) ∙ run-length _ m 0 in
       rw e (h i a b f)
 
-  pub walk-carried : {m₂ m₃ : Mem} {v : Added} {r : Outcome} → AddsAll id P (s .base) (setBits 30 2 adds) (w .table) m₁ v m₂
+  -- the drops, the adds, and the slot's next state
+  pub walk-carried : {P : ℕ} {adds : List ℕ} {m₂ m₃ : Mem} {v : Added} (s : Slot) {r : Outcome} → AddsAll id P base adds (w .table) m₁ v m₂
       → Carries (finish id s Configured (walk (v .table) (v .launched) (w .terminated) (v .port))) m₂ (w .stored + v .stored) r m₃
-      → Carries (bind (dropAndAdd id P (s .base) (setBits 30 2 drops) (setBits 30 2 adds) (begin t)) (finish id s Configured)) m 0 r m₃
+      → Carries (bind (dropAndAdd id P base drops adds (begin t)) (finish id s Configured)) m 0 r m₃
   unfolding dropAndAdd
-  walk-carried a f =
-      let both = after (addAll id P (s .base) (setBits 30 2 adds)) (d .ends) ∙ ends-from (a .ends (w .terminated)) (w .stored) .ends in
+  walk-carried {P} {adds} s a f =
+      let both = after (addAll id P base adds) (d .ends) ∙ ends-from (a .ends (w .terminated)) (w .stored) .ends in
       record { ends = record { ends = after (finish id s Configured) (record { ends = both }) ∙ f .ends .ends } }
 
 -- ---- DC=0: k is what the context check finds
 
 module _ (id P : ℕ) (s : Slot) (t : Table) (m : Mem) where
+  -- the command
   abbrev Whole : Prog (Result Told)
   Whole = reconfigure usbTypes id P s (length m) t
 
+  -- what is left of it where nothing is refused
   abbrev Walked : ℕ → ℕ → Prog (Result Told)
   Walked drops adds = bind (dropAndAdd id P (s .base) (setBits 30 2 drops) (setBits 30 2 adds) (begin t)) (finish id s Configured)
 
@@ -94,30 +99,32 @@ ranges-space len P adds {id} {base} i f b k lo hi d =
 
 -- ---- the call, past 198, 194 and 11
 
+-- the state is right for the command
+is-settled : (st : SlotState) → isSettled st ≡ true → Settled st
+is-settled Free e = absurd (clash false e refl)
+is-settled Enabled e = absurd (clash false e refl)
+is-settled Default e = absurd (clash false e refl)
+is-settled Addressed e = isAddressed
+is-settled Configured e = isConfigured
+
 pub settled-yes : {A : Type 0} (st : SlotState) (p : Prog (Result A)) → isSettled st ≡ true → settled st p ≡ p
-unfolding settled
-settled-yes Free p e = let z : _≡_ {A = ℕ} 0 1 = cc in absurd (omega arith)
-settled-yes Enabled p e = let z : _≡_ {A = ℕ} 0 1 = cc in absurd (omega arith)
-settled-yes Default p e = let z : _≡_ {A = ℕ} 0 1 = cc in absurd (omega arith)
-settled-yes Addressed p e = refl
-settled-yes Configured p e = refl
+settled-yes st p e = settled-is p (is-settled st e)
 
 pub settled-no : {A : Type 0} (st : SlotState) (p : Prog (Result A)) → isSettled st ≡ false → settled st p ≡ done (refuse 19)
 unfolding settled
 settled-no Free p e = refl
 settled-no Enabled p e = refl
 settled-no Default p e = refl
-settled-no Addressed p e = let z : _≡_ {A = ℕ} 0 1 = cc in absurd (omega arith)
-settled-no Configured p e = let z : _≡_ {A = ℕ} 0 1 = cc in absurd (omega arith)
+settled-no Addressed p e = absurd (clash true refl e)
+settled-no Configured p e = absurd (clash true refl e)
 
-settled-use : (st : SlotState) (s : Slot) (t : Table) (id : ℕ) → isSettled st ≡ true → Fits st s t id → InUse (t .length) (s .base) id t
-settled-use Free s t id e f = let z : _≡_ {A = ℕ} 0 1 = cc in absurd (omega arith)
-settled-use Enabled s t id e f = let z : _≡_ {A = ℕ} 0 1 = cc in absurd (omega arith)
-settled-use Default s t id e f = f
-settled-use Addressed s t id e f = f
-settled-use Configured s t id e f = f
+-- so the slot's records are in use
+settled-use : {st : SlotState} (s : Slot) (t : Table) (id : ℕ) → Settled st → Fits st s t id → InUse (t .length) (s .base) id t
+settled-use s t id isAddressed f = f
+settled-use s t id isConfigured f = f
 
-module _ (id : ℕ) (s : Slot) (t : Table) (m : Mem) (o : Opened t m id s) where
+module _ {id : ℕ} {s : Slot} {t : Table} {m : Mem} (o : Opened t m id s) where
+  -- s is the table's slot
   here : OnSlot t (length m) id s
   here = on-slot t (length m) id (record { formed = o .formed; size = o .size }) (o .used)
 
@@ -126,8 +133,9 @@ module _ (id : ℕ) (s : Slot) (t : Table) (m : Mem) (o : Opened t m id s) where
   settled-based e =
       let h = here in
       let f : Fits (s .state) s t id = rw (h .slot) at (formed-fits t (o .formed) id (h .low, h .high)) in
-      record { low = h .low; high = h .high; room = omega (arith, o .size, settled-use (s .state) s t id e f .room) }
+      record { low = h .low; high = h .high; room = omega (arith, o .size, settled-use s t id (is-settled (s .state) e) f .room) }
 
+  -- each enabled endpoint past the first has its context in memory
   pub opened-rooms : Rooms t id (s .base) 2 (length m)
   opened-rooms =
       let h = here in
@@ -135,16 +143,19 @@ module _ (id : ℕ) (s : Slot) (t : Table) (m : Mem) (o : Opened t m id s) where
       λ i a b d. omega (arith, o .size, r i a b d)
 
   module _ (P : ℕ) where
+    -- the state is wrong
     pub configure-refused : (dc : Bool) → isSettled (s .state) ≡ false → Answers (configureEndpoint id P dc) t m (refusal t 19) m
     unfolding prog meaning commands.configureEndpoint
     configure-refused true e = refuses-at-once t m (slot-opens 11 t id _ m s o ∙ settled-no (s .state) _ e)
     configure-refused false e = refuses-at-once t m (slot-opens 11 t id _ m s o ∙ settled-no (s .state) _ e)
 
+    -- DC=1
     pub deconfigured : {dc : Bool} {r : Outcome} {m′ : Mem} → isSettled (s .state) ≡ true → dc ≡ true → Carries (deconfigure id s Addressed t) m 0 r m′
         → Answers (configureEndpoint id P dc) t m r m′
     unfolding prog meaning commands.configureEndpoint
     deconfigured e d h = rw d (meets-as t (slot-opens 11 t id _ m s o ∙ settled-yes (s .state) _ e) (meets-ok t (h .ends)))
 
+    -- DC=0
     pub configured : {dc : Bool} {r : Outcome} {m′ : Mem} → isSettled (s .state) ≡ true → dc ≡ false → Settles (reconfigure usbTypes id P s (length m) t) t m r m′
         → Answers (configureEndpoint id P dc) t m r m′
     unfolding prog meaning commands.configureEndpoint
