@@ -20,7 +20,7 @@ use Rattle.definition.specs.Calls.{told, Meets}
 use Rattle.endpoint.specs.Promises.{Terminates}
 use Rattle.endpoint.specs.declared.Terminated.{Terminated}
 use Rattle.scan.specs.Heads.{refusal}
-use Rattle.scan.proofs.OpeningLaws.{telling, meets-ok, refuses-at-once}
+use Rattle.scan.proofs.OpeningLaws.{telling, meets-ok, refuses-at-once, meets-as}
 use Rattle.walks.specs.declared.Launched.{Launched}
 use Rattle.walks.specs.Promises.{walk, CopyLaunches}
 use Rattle.walks.proofs.LaunchLaws.{copy-launch-one}
@@ -62,3 +62,85 @@ copied t id c slot x s {m = m} {r = r} h a b d e l =
           rw (← n, ← is-with-first t id (r .endpoint))
           (record { ends = ends-value f (copy-launch-one id (slot .base) (c + 32) 1 (walk t 0 x 0) (rw (e, d, b, a) at l) (s + length (block m c 32) + 1)) .ends });
     }
+
+-- ---- how a part of a call is answered
+
+-- what was carried out from the start is answered
+pub carried : (t : Table) {p : Prog (Result Told)} {m : Mem} {r : Outcome} {m′ : Mem} → Carries p m 0 r m′ → Settles p t m r m′
+carried t h = meets-ok t (h .ends)
+
+-- a program that runs as another is answered as it
+pub settles-as : (t : Table) (p q : Prog (Result Told)) {m : Mem} {r : Outcome} {m′ : Mem} → run p m 0 ≡ run q m 0 → Settles q t m r m′ → Settles p t m r m′
+settles-as t p q {m} e h =
+    let k : run (telling t p) m 0 ≡ run (telling t q) m 0 =
+        run-bind p (λ r. done (told t r)) m 0
+        ∙ ap (λ (x : Ran (Result Told)). run (done (told t (x .value))) (x .memory) (x .stored)) e
+        ∙ sym (run-bind q (λ r. done (told t r)) m 0) in
+    record { answer = rw k (h .answer); table = rw k (h .table); memory = rw k (h .memory) }
+
+-- ---- a range that the code has sought
+
+module _ (len a n : ℕ) {place : Located} (found : place ≡ located len a n) where
+  missing : (p : Prog (Result Told)) → place ≡ Outside → need len a n p ≡ done (refuse 193)
+  missing p o = need-no len a n p (inside-no len a n (located-outside len a n (sym found ∙ o)))
+
+  pub lies : {i : ℕ} → place ≡ At i → a + n ≤ len
+  lies h = inside-yes len a n (located-at len a n (sym found ∙ h) .1)
+
+  there : {i : ℕ} (p : Prog (Result Told)) → place ≡ At i → need len a n p ≡ p
+  there p h = need-yes len a n p (lies h)
+
+-- ---- a slot that is Enabled
+
+module _ (P : ℕ) (t : Table) (id : ℕ) (slot : Slot) (next : SlotState) (m : Mem) where
+  abbrev Fresh : Prog (Result Told)
+  Fresh = carryOut (length m) P t id slot (fresh next)
+
+  abbrev Copy : ℕ → Prog (Result Told)
+  Copy base = copyContexts id (P ⊕ 32) base next (slot .entry) (begin t)
+
+  module _ {entry : Located} (e : entry ≡ located (length m) (slot .entry) 8) where
+    pub fresh-no-entry : entry ≡ Outside → Settles Fresh t m (refusal t 193) m
+    unfolding carryOut
+    fresh-no-entry o = refuses-at-once t m (missing _ _ _ e _ o)
+
+    module _ {at base address : ℕ} {input : Located} (h : entry ≡ At at) (b : base ≡ number (block m at 8)) (a : address ≡ P ⊕ 32) (f : input ≡ located (length m) address 64) where
+      abbrev Sought : Prog (Result Told)
+      Sought = need (length m) (P ⊕ 32) 64 (need (length m) base 64 (Copy base))
+
+      fresh-base : run Fresh m 0 ≡ run Sought m 0
+      unfolding carryOut
+      fresh-base = rw (there _ _ _ e _ h, run-get, b, located-at (length m) (slot .entry) 8 (sym e ∙ h) .0)
+
+      pub fresh-no-input : input ≡ Outside → Settles Fresh t m (refusal t 193) m
+      fresh-no-input o = settles-as t Fresh Sought fresh-base (refuses-at-once t m (missing _ _ _ (f ∙ rw a) _ o))
+
+      module _ {from : ℕ} {device : Located} (i : input ≡ At from) (g : device ≡ located (length m) base 64) where
+        pub fresh-no-device : device ≡ Outside → Settles Fresh t m (refusal t 193) m
+        fresh-no-device o = settles-as t Fresh Sought fresh-base (refuses-at-once t m (there _ _ _ (f ∙ rw a) _ i ∙ missing _ _ _ g _ o))
+
+        pub fresh-goes : {d : ℕ} {r : Outcome} {m′ : Mem} → device ≡ At d → Carries (copyContexts id from base next (slot .entry) (walk t 0 0 0)) m 0 r m′ → Settles Fresh t m r m′
+        fresh-goes d w =
+            settles-as t Fresh Sought fresh-base
+            (meets-as t (there _ _ _ (f ∙ rw a) _ i ∙ there _ _ _ g _ d) (carried t (rw (located-at (length m) address 64 (sym f ∙ i) .0, a) at w)))
+
+-- ---- a slot that is Default
+
+module _ (P : ℕ) (t : Table) (id : ℕ) (slot : Slot) (next : SlotState) (m : Mem) {address : ℕ} {input : Located} (a : address ≡ P ⊕ 32) (f : input ≡ located (length m) address 64) where
+  pub again-no-input : input ≡ Outside → Settles (carryOut (length m) P t id slot (again next)) t m (refusal t 193) m
+  unfolding carryOut
+  again-no-input o = refuses-at-once t m (missing _ _ _ (f ∙ rw a) _ o)
+
+  pub again-goes : {from : ℕ} {gone : Terminated} {m₁ : Mem} {r : Outcome} {m′ : Mem} → input ≡ At from → slot .base + 64 ≤ length m
+      → isDisabled (endpointOf t id 1) ≡ false → Terminates (first t id) (slot .base ⊕ 32 * 1) m gone m₁
+      → Carries (copyContexts id from (slot .base) next (slot .entry) (walk (withFirst t id (gone .endpoint)) 0 2 0)) m₁ 1 r m′
+      → Settles (carryOut (length m) P t id slot (again next)) t m r m′
+  unfolding carryOut
+  again-goes {from} {gone} {m₁} i h d g w =
+      let e : Terminates (endpointOf t id 1) (slot .base ⊕ 32 * 1) m gone m₁ = rw is-first g in
+      let one : gone .stored ≡ 1 = e .count ∙ rw d in
+      let k : Ends (terminate id (slot .base) 1 (begin t)) m 0 (walk (withFirst t id (gone .endpoint)) 0 2 0) m₁ 1 =
+          rw (is-with-first, one) at (terminate-one id (slot .base) 1 (begin t) e 0) in
+      let v = rw (located-at (length m) address 64 (sym f ∙ i) .0, a) at w in
+      meets-as t (there _ _ _ (f ∙ rw a) _ i ∙ need-yes _ _ _ _ h)
+      (carried t (record { ends = record { ends = after (λ w. copyContexts id (P ⊕ 32) (slot .base) next (slot .entry) w) k ∙ v .ends .ends } }))
