@@ -1,11 +1,14 @@
 -- What the code of Address Device does is what the definition's program does.
 -- Assumes nothing.
 use mathlib.Core.Path.{_≡_, refl, sym, ap, _∙_}
-use mathlib.Core.Bool.{false}
+use mathlib.Core.Logic.{⊎-elim}
+use mathlib.Core.Bool.{Bool, true, false}
 use mathlib.Core.List.{List, [], _∷_}
 use Prim.Native.Nat.{ℕ, _+_, _-_, _*_, _≤_}
 use native.Mathlib.Nat.{add-zero}
 use native.Mathlib.Omega.{arith}
+use types.Run.{OneOf}
+use denote.Enum.Declared.{tagOf}
 use lib.ListN.{length, getD, set}
 use Rattle.guest.specs.Bytes.{number, _⊕_, located, slotStateByte}
 use Rattle.guest.specs.Prog.{Mem, Prog, done, block, splice, Ran, run, Ends, bind, Result, ok, refuse, need}
@@ -15,18 +18,27 @@ use Rattle.guest.proofs.RunLaws.{run-bind, run-get, after, ends-value, inside-y
 use Rattle.guest.proofs.SpliceLaws.{block-length}
 use Rattle.definition.specs.Table.{isDisabled, disabled, endpointOf, withEndpoint, withSlot}
 use Rattle.definition.specs.Walks.{Walk, begin, terminate}
-use Rattle.definition.specs.Commands.{Told, contextState, walked, copyContexts, fresh, again, carryOut}
-use Rattle.definition.specs.Calls.{told, Meets}
+use Rattle.definition.specs.Commands.{Told, contextState, walked, Plan, fresh, again, never, plan, copyContexts, carryOut, addressDevice}
+use Rattle.definition.specs.Calls as calls
+use Rattle.definition.specs.Calls.{meaning, told, prog}
+use Rattle.definition.specs.Rules.{Opened}
+use Rattle.definition.proofs.HeadLaws.{slot-opens}
+use Rattle.definition.proofs.FormedFacts.{InUse, Fits, formed-fits}
 use Rattle.endpoint.specs.Promises.{Terminates}
 use Rattle.endpoint.specs.declared.Terminated.{Terminated}
+use Rattle.contexts.specs.Checks.{Checks}
+use Rattle.contexts.specs.declared.Checked.{Checked}
+use Rattle.contexts.specs.declared.Checked.the-variants.{Adds, Refused}
+use Rattle.contexts.proofs.CheckLaws.{check-goes-on, check-refuses}
 use Rattle.scan.specs.Heads.{refusal}
-use Rattle.scan.proofs.OpeningLaws.{telling, meets-ok, refuses-at-once, meets-as}
+use Rattle.scan.proofs.OpeningLaws.{telling, meets-ok, refuses-with, refuses-at-once, meets-as, OnSlot, on-slot}
 use Rattle.walks.specs.declared.Launched.{Launched}
 use Rattle.walks.specs.Promises.{walk, CopyLaunches}
 use Rattle.walks.proofs.LaunchLaws.{copy-launch-one}
 use Rattle.walks.proofs.WalkLaws.{terminate-one}
-use Rattle.commands.specs.Types.{Endpoint, SlotState, Slot, Table, Outcome}
-use Rattle.commands.specs.Promises.{tallied, Carries, Settles}
+use Rattle.definition.proofs.SlotState.{the-type}
+use Rattle.commands.specs.Types.{Endpoint, SlotState, Free, Enabled, Default, Addressed, Configured, Slot, Table, Outcome}
+use Rattle.commands.specs.Promises.{tallied, Carries, Answers, Settles, Based}
 
 -- ---- endpoint 1, as the code finds it in the flat run
 
@@ -144,3 +156,44 @@ module _ (P : ℕ) (t : Table) (id : ℕ) (slot : Slot) (next : SlotState) (m : 
       let v = rw (located-at (length m) address 64 (sym f ∙ i) .0, a) at w in
       meets-as t (there _ _ _ (f ∙ rw a) _ i ∙ need-yes _ _ _ _ h)
       (carried t (record { ends = record { ends = after (λ w. copyContexts id (P ⊕ 32) (slot .base) next (slot .entry) w) k ∙ v .ends .ends } }))
+
+-- ---- the plan
+
+pub plan-in : {state at : SlotState} {bsr is : Bool} → state ≡ at → bsr ≡ is → plan state bsr ≡ plan at is
+plan-in e f = cc
+
+-- the other states
+pub plan-other : (state : SlotState) (bsr : Bool) → OneOf (0 ∷ 3 ∷ 4 ∷ []) (tagOf the-type state) → plan state bsr ≡ never
+unfolding plan
+plan-other Free bsr h = refl
+plan-other Enabled bsr h = absurd (⊎-elim (λ e. omega arith) (⊎-elim (λ e. omega arith) (λ e. omega arith)) h)
+plan-other Default bsr h = absurd (⊎-elim (λ e. omega arith) (⊎-elim (λ e. omega arith) (λ e. omega arith)) h)
+plan-other Addressed bsr h = refl
+plan-other Configured bsr h = refl
+
+-- ---- the whole
+
+module _ {t : Table} {m : Mem} {id : ℕ} {s : Slot} (o : Opened t m id s) where
+  pub opened-on : OnSlot t (length m) id s
+  opened-on = on-slot t (length m) id (record { formed = o .formed; size = o .size }) (o .used)
+
+  pub default-fits : s .state ≡ Default → Based id (s .base) (length m) × (isDisabled (endpointOf t id 1) ≡ false)
+  default-fits d =
+      let k = opened-on in
+      let f : Fits (s .state) s t id = rw (k .slot) at (formed-fits t (k .formed) id (k .low, k .high)) in
+      let u : InUse (t .length) (s .base) id t = rw d at f in
+      (record { low = k .low; high = k .high; room = omega (arith, u .room, k .size) }, u .first)
+
+  module _ (P : ℕ) (bsr : Bool) {checked : Checked} (w : Checks P m checked) where
+    pub device-unchecked : {c : ℕ} → checked ≡ Refused c → Answers (calls.addressDevice id P bsr) t m (refusal t c) m
+    unfolding prog meaning addressDevice
+    device-unchecked e = meets-as t (slot-opens 11 t id _ m s o) (refuses-with t (check-refuses P m _ w e))
+
+    pub device-goes : {adds : ℕ} {p : Plan} {r : Outcome} {m′ : Mem} → checked ≡ Adds adds → plan (s .state) bsr ≡ p
+        → Settles (carryOut (length m) P t id s p) t m r m′ → Answers (calls.addressDevice id P bsr) t m r m′
+    unfolding prog meaning addressDevice
+    device-goes e q h = meets-as t (slot-opens 11 t id _ m s o) (settles-as t _ _ (check-goes-on P m _ w e) (rw q h))
+
+    pub device-never : {adds : ℕ} → checked ≡ Adds adds → plan (s .state) bsr ≡ never → Answers (calls.addressDevice id P bsr) t m (refusal t 19) m
+    unfolding carryOut
+    device-never e q = device-goes e q (refuses-at-once t m refl)
