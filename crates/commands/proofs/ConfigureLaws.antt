@@ -14,12 +14,10 @@ use Rattle.guest.proofs.RunLaws.{run-done, run-get, inside-yes, inside-no, need
 use Rattle.guest.proofs.ReadLaws.{run-length}
 use Rattle.definition.specs.Walks.{begin}
 use Rattle.definition.specs.Commands as commands
-use Rattle.definition.specs.Commands.{Told, usbTypes, settled, finish, deconfigure, needContexts, addAll, dropAndAdd, reconfigure}
+use Rattle.definition.specs.Commands.{Told, usbTypes, finish, deconfigure, needContexts, addAll, dropAndAdd, reconfigure}
 use Rattle.definition.specs.Calls.{configureEndpoint, meaning, prog}
-use Rattle.definition.specs.Rules.{Settled, isAddressed, isConfigured, Opened}
+use Rattle.definition.specs.Rules.{Opened}
 use Rattle.definition.proofs.HeadLaws.{slot-opens}
-use Rattle.definition.proofs.FormedFacts.{clash, InUse, Fits, formed-fits}
-use Rattle.definition.proofs.ConfigureLaws.{settled-is}
 use Rattle.contexts.specs.declared.Checked.{Checked}
 use Rattle.contexts.specs.declared.Checked.the-variants.{Adds, Refused}
 use Rattle.contexts.specs.Checks.{Checks}
@@ -28,11 +26,11 @@ use Rattle.contexts.proofs.CheckLaws.{check-goes-on, check-refuses}
 use Rattle.contexts.proofs.RangeLaws.{ranges-pass, ranges-refuse, added-fits}
 use Rattle.walks.specs.declared.Ended.{Ended}
 use Rattle.walks.specs.declared.Added.{Added}
-use Rattle.walks.specs.Promises.{walk, Rooms, TerminatesAll, AddsAll, Spaces}
-use Rattle.walks.proofs.RoomLaws.{formed-rooms}
+use Rattle.walks.specs.Promises.{walk, TerminatesAll, AddsAll, Spaces}
 use Rattle.scan.specs.Heads.{refusal}
-use Rattle.scan.proofs.OpeningLaws.{meets-ok, refuses-with, refuses-at-once, meets-as, OnSlot, on-slot}
-use Rattle.commands.specs.Types.{SlotState, Free, Enabled, Default, Addressed, Configured, Slot, Table, Outcome}
+use Rattle.scan.proofs.OpeningLaws.{meets-ok, refuses-with, refuses-at-once, meets-as}
+use Rattle.commands.proofs.OutcomeLaws.{settled-yes, settled-no}
+use Rattle.commands.specs.Types.{Addressed, Configured, Slot, Table, Outcome}
 use Rattle.commands.specs.Promises.{Carries, Answers, Settles, Based, isSettled}
 
 -- ---- the walk
@@ -97,66 +95,23 @@ ranges-space len P adds {id} {base} i f b k lo hi d =
     let g = added-fits len P base adds (sym i ∙ f) k lo (omega arith) d in
     record { low = hi; input = g .input; output = g .device; head = b .room }
 
--- ---- the call, past 198, 194 and 11
+-- ---- the call on a slot that was found
 
--- the state is right for the command
-is-settled : (st : SlotState) → isSettled st ≡ true → Settled st
-is-settled Free e = absurd (clash false e refl)
-is-settled Enabled e = absurd (clash false e refl)
-is-settled Default e = absurd (clash false e refl)
-is-settled Addressed e = isAddressed
-is-settled Configured e = isConfigured
+module _ {id : ℕ} {s : Slot} {t : Table} {m : Mem} (o : Opened t m id s) (P : ℕ) where
+  -- the state is wrong
+  pub configure-refused : (dc : Bool) → isSettled (s .state) ≡ false → Answers (configureEndpoint id P dc) t m (refusal t 19) m
+  unfolding prog meaning commands.configureEndpoint
+  configure-refused true e = refuses-at-once t m (slot-opens 11 t id _ m s o ∙ settled-no (s .state) _ e)
+  configure-refused false e = refuses-at-once t m (slot-opens 11 t id _ m s o ∙ settled-no (s .state) _ e)
 
-pub settled-yes : {A : Type 0} (st : SlotState) (p : Prog (Result A)) → isSettled st ≡ true → settled st p ≡ p
-settled-yes st p e = settled-is p (is-settled st e)
+  -- DC=1
+  pub configure-drops : {dc : Bool} {r : Outcome} {m′ : Mem} → isSettled (s .state) ≡ true → dc ≡ true → Carries (deconfigure id s Addressed t) m 0 r m′
+      → Answers (configureEndpoint id P dc) t m r m′
+  unfolding prog meaning commands.configureEndpoint
+  configure-drops e d h = rw d (meets-as t (slot-opens 11 t id _ m s o ∙ settled-yes (s .state) _ e) (meets-ok t (h .ends)))
 
-pub settled-no : {A : Type 0} (st : SlotState) (p : Prog (Result A)) → isSettled st ≡ false → settled st p ≡ done (refuse 19)
-unfolding settled
-settled-no Free p e = refl
-settled-no Enabled p e = refl
-settled-no Default p e = refl
-settled-no Addressed p e = absurd (clash true refl e)
-settled-no Configured p e = absurd (clash true refl e)
-
--- so the slot's records are in use
-settled-use : {st : SlotState} (s : Slot) (t : Table) (id : ℕ) → Settled st → Fits st s t id → InUse (t .length) (s .base) id t
-settled-use s t id isAddressed f = f
-settled-use s t id isConfigured f = f
-
-module _ {id : ℕ} {s : Slot} {t : Table} {m : Mem} (o : Opened t m id s) where
-  -- s is the table's slot
-  here : OnSlot t (length m) id s
-  here = on-slot t (length m) id (record { formed = o .formed; size = o .size }) (o .used)
-
-  -- the slot's device context begins in memory
-  pub settled-based : isSettled (s .state) ≡ true → Based id (s .base) (length m)
-  settled-based e =
-      let h = here in
-      let f : Fits (s .state) s t id = rw (h .slot) at (formed-fits t (o .formed) id (h .low, h .high)) in
-      record { low = h .low; high = h .high; room = omega (arith, o .size, settled-use s t id (is-settled (s .state) e) f .room) }
-
-  -- each enabled endpoint past the first has its context in memory
-  pub opened-rooms : Rooms t id (s .base) 2 (length m)
-  opened-rooms =
-      let h = here in
-      let r : Rooms t id (s .base) 2 (t .length) = rw (h .slot) at (formed-rooms t (o .formed) id (h .low, h .high) 2 (omega arith)) in
-      λ i a b d. omega (arith, o .size, r i a b d)
-
-  module _ (P : ℕ) where
-    -- the state is wrong
-    pub configure-refused : (dc : Bool) → isSettled (s .state) ≡ false → Answers (configureEndpoint id P dc) t m (refusal t 19) m
-    unfolding prog meaning commands.configureEndpoint
-    configure-refused true e = refuses-at-once t m (slot-opens 11 t id _ m s o ∙ settled-no (s .state) _ e)
-    configure-refused false e = refuses-at-once t m (slot-opens 11 t id _ m s o ∙ settled-no (s .state) _ e)
-
-    -- DC=1
-    pub deconfigured : {dc : Bool} {r : Outcome} {m′ : Mem} → isSettled (s .state) ≡ true → dc ≡ true → Carries (deconfigure id s Addressed t) m 0 r m′
-        → Answers (configureEndpoint id P dc) t m r m′
-    unfolding prog meaning commands.configureEndpoint
-    deconfigured e d h = rw d (meets-as t (slot-opens 11 t id _ m s o ∙ settled-yes (s .state) _ e) (meets-ok t (h .ends)))
-
-    -- DC=0
-    pub configured : {dc : Bool} {r : Outcome} {m′ : Mem} → isSettled (s .state) ≡ true → dc ≡ false → Settles (reconfigure usbTypes id P s (length m) t) t m r m′
-        → Answers (configureEndpoint id P dc) t m r m′
-    unfolding prog meaning commands.configureEndpoint
-    configured e d h = rw d (meets-as t (slot-opens 11 t id _ m s o ∙ settled-yes (s .state) _ e) h)
+  -- DC=0
+  pub configures : {dc : Bool} {r : Outcome} {m′ : Mem} → isSettled (s .state) ≡ true → dc ≡ false → Settles (reconfigure usbTypes id P s (length m) t) t m r m′
+      → Answers (configureEndpoint id P dc) t m r m′
+  unfolding prog meaning commands.configureEndpoint
+  configures e d h = rw d (meets-as t (slot-opens 11 t id _ m s o ∙ settled-yes (s .state) _ e) h)

@@ -1,3 +1,4 @@
 pub mod OutcomeLaws
 pub mod ReachLaws
+pub mod AddressLaws
 pub mod ConfigureLaws

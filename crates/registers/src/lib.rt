@@ -10,9 +10,8 @@ use definition::Table;
 ghost use mathlib.Core.Path.{_≡_};
 ghost use mathlib.Core.Bool.{true};
 ghost use Prim.Native.Nat.{_≤_};
-ghost use lib.Dec.{eqb};
 ghost use lib.ListN.{length};
-ghost use Rattle.definition.specs.Table.{slotNumber, freshTable, wellFormed};
+ghost use Rattle.definition.specs.Table.{freshTable, wellFormed};
 ghost use Rattle.definition.specs.Commands.{answer};
 ghost use Rattle.definition.specs.Calls.{setLimit, setDcbaap, enableSlot, resetAll, prog, made, Meets};
 ghost use Rattle.registers.specs.Promises.{AnswersAlone, firstFree};
@@ -102,18 +101,6 @@ pub fn set_dcbaap(t: Table, dcbaap: u64) -> Outcome
     }
 }
 
-fn is_free(state: SlotState) -> bool
-    ensures { λ r. ⌜ r ≡ eqb (slotNumber state) 0 ⌝ }
-{
-    match state {
-        SlotState::Free => true,
-        SlotState::Enabled => false,
-        SlotState::Default => false,
-        SlotState::Addressed => false,
-        SlotState::Configured => false,
-    }
-}
-
 // The smallest free id from 1 to the limit; 0 where there is none.
 fn first_free(t: Table) -> u64
     requires { ⌜ t .limit ≤ 16 ⌝ }
@@ -125,7 +112,7 @@ fn first_free(t: Table) -> u64
         let j = (id - 1) as usize;
         let slot = t.slots[j];
         let state = slot.state;
-        if is_free(state) {
+        if scan::records::is_free(state) {
             return id;
         }
         id += 1;

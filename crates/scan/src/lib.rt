@@ -1,6 +1,6 @@
 // How a call begins: whether its table is well formed, whether the lent memory is the table's, and which slot it is for.
 // Each function that takes the table indexes it itself, and hands on only single records and numbers.
-mod records;
+pub mod records;
 
 use definition::Answer;
 use definition::Lookup;

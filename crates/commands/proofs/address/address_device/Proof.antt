@@ -1,3 +1,5 @@
+use Rattle.definition.specs.Commands.{plan}
+use Rattle.commands.proofs.AddressLaws.{plan-in, plan-other, opened-on, default-fits, device-unchecked, device-goes, device-never}
 use borrow.Author.Needs.{needs}
 use Rattle.commands.proofs.address.address_device.Statement.{statement}
 use Rattle.commands.proofs.address.address_device.Tie as tie
@@ -26,7 +28,11 @@ same-length c = search needs
 
 -- src/address.rt:131:9
 returns : tie.Need-returns
-returns c = ?
+returns c =
+    let check = c .before .before .before .before in
+    let start = check .before .before .before in
+    let a = start .args in
+    rw (c .refused .ensures) (device-unchecked (start .pre) (a .pointer) (a .bsr) (check .context-check .ensures) (c .before .before .checked .given .1))
 
 enum-told : tie.Need-enum-told
 enum-told c = search needs
@@ -37,7 +43,7 @@ enum-told-2 c = search needs
 
 -- src/address.rt:137:17
 first-address-requires : tie.Need-first-address-requires
-first-address-requires c κs = ?
+first-address-requires c κs = let on = opened-on (c .before .before .before .before .before .before .before .before .before .pre) in (on .low, on .high)
 
 -- src/address.rt:137:17
 same-length-2 : tie.Need-same-length-2
@@ -45,11 +51,18 @@ same-length-2 c = search needs
 
 -- src/address.rt:137:17
 returns-2 : tie.Need-returns-2
-returns-2 c = ?
+unfolding plan
+returns-2 c =
+    let if = c .before .before .before .before in
+    let go = if .before .before .before in
+    let check = go .before .before in
+    let start = check .before .before .before in
+    let a = start .args in
+    device-goes (start .pre) (a .pointer) (a .bsr) (check .context-check .ensures) (go .enum-told .given .1) (plan-in (if .before .enum-told2 .given .1) (if .if1 .taken)) (c .before .before .first-address .ensures)
 
 -- src/address.rt:139:13
 first-address-requires-2 : tie.Need-first-address-requires-2
-first-address-requires-2 c κs = ?
+first-address-requires-2 c κs = let on = opened-on (c .before .before .before .before .before .before .before .before .before .pre) in (on .low, on .high)
 
 -- src/address.rt:142:16
 enum-told-3 : tie.Need-enum-told-3
@@ -65,11 +78,19 @@ same-length-3 c = search needs
 
 -- src/address.rt:143:17
 returns-3 : tie.Need-returns-3
-returns-3 c = ?
+unfolding plan
+returns-3 c =
+    let if = c .before in
+    let go = if .before .before .before in
+    let check = go .before .before in
+    let start = check .before .before .before in
+    let a = start .args in
+    rw (c .refused2 .ensures)
+    (device-never (start .pre) (a .pointer) (a .bsr) (check .context-check .ensures) (go .enum-told .given .1) (plan-in (if .before .enum-told3 .given .1) (if .if2 .taken)))
 
 -- src/address.rt:145:13
 second-address-requires : tie.Need-second-address-requires
-second-address-requires c κs = ?
+second-address-requires c κs = default-fits (c .before .before .before .before .before .before .before .before .before .pre) (c .before .before .enum-told3 .given .1)
 
 -- src/address.rt:147:14
 refused-requires-3 : tie.Need-refused-requires-3
@@ -81,7 +102,14 @@ same-length-4 c = search needs
 
 -- src/address.rt:118:1
 returns-4 : tie.Need-returns-4
-returns-4 c = ?
+unfolding plan
+returns-4 c =
+    let if = c .before .before .before .before in
+    let go = if .before .before .before in
+    let check = go .before .before in
+    let start = check .before .before .before in
+    let a = start .args in
+    device-goes (start .pre) (a .pointer) (a .bsr) (check .context-check .ensures) (go .enum-told .given .1) (plan-in (if .before .enum-told2 .given .1) (if .if1 .left)) (c .before .before .first-address2 .ensures)
 
 -- src/address.rt:118:1
 same-length-5 : tie.Need-same-length-5
@@ -89,7 +117,14 @@ same-length-5 c = search needs
 
 -- src/address.rt:118:1
 returns-5 : tie.Need-returns-5
-returns-5 c = ?
+unfolding plan
+returns-5 c =
+    let if = c .before .before .before .before in
+    let go = if .before .before .before in
+    let check = go .before .before in
+    let start = check .before .before .before in
+    let a = start .args in
+    device-goes (start .pre) (a .pointer) (a .bsr) (check .context-check .ensures) (go .enum-told .given .1) (plan-in (if .before .enum-told3 .given .1) (if .if2 .left)) (c .before .before .second-address .ensures)
 
 -- src/address.rt:118:1
 same-length-6 : tie.Need-same-length-6
@@ -97,7 +132,13 @@ same-length-6 c = search needs
 
 -- src/address.rt:118:1
 returns-6 : tie.Need-returns-6
-returns-6 c = ?
+returns-6 c =
+    let go = c .before .before in
+    let check = go .before .before in
+    let start = check .before .before .before in
+    let a = start .args in
+    rw (c .refused3 .ensures)
+    (device-never (start .pre) (a .pointer) (a .bsr) (check .context-check .ensures) (go .enum-told .given .1) (plan-other (a .slot .state) (a .bsr) (c .before .match2 .keys3)))
 
 pub address-device-spec : {M : Type 1} → statement M
 address-device-spec =

@@ -1,3 +1,6 @@
+use native.Mathlib.Omega.{arith}
+use Rattle.definition.specs.Table.{withSlot}
+use Rattle.commands.proofs.AddressLaws.{copied}
 use borrow.Author.Needs.{needs}
 use Rattle.commands.proofs.address.copy_contexts.Statement.{statement}
 use Rattle.commands.proofs.address.copy_contexts.Tie as tie
@@ -76,7 +79,16 @@ same-length c = search needs
 
 -- src/address.rt:23:1
 returns : tie.Need-returns
-returns c = ?
+unfolding withSlot
+returns c =
+    let launch = c .before .before .before .before in
+    let state = launch .before .before .before .before in
+    let store = state .before .before .before .before in
+    let read = store .before .before .before in
+    let start = read .before .before .before in
+    let a = start .args in
+    rw (c .success .ensures)
+    (copied (a .t) (a .id) (a .from) (a .slot) (a .terminated) (a .stored) (omega (arith, start .pre .1 .0)) (read .read-context .ensures) (store .before .index .ensures) (store .store-context .ensures) (state .store-slot-state .ensures) (launch .copy-launch .ensures))
 
 pub copy-contexts-spec : {M : Type 1} → statement M
 copy-contexts-spec =

@@ -1,3 +1,8 @@
+use mathlib.Core.Path.{sym, _∙_}
+use native.Mathlib.Omega.{arith}
+use lib.ListN.{length}
+use Rattle.guest.proofs.RunLaws.{located-fits}
+use Rattle.commands.proofs.AddressLaws.{lies, fresh-no-entry, fresh-no-input, fresh-no-device, fresh-goes}
 use borrow.Author.Needs.{needs}
 use Rattle.commands.proofs.address.first_address.Statement.{statement}
 use Rattle.commands.proofs.address.first_address.Tie as tie
@@ -27,11 +32,14 @@ refused-requires c κs = search needs
 
 -- src/address.rt:73:9
 returns : tie.Need-returns
-returns c = ?
+returns c =
+    let found = c .before .before .before in
+    let a = found .before .before .args in
+    rw (c .refused .ensures) (fresh-no-entry (a .pointer) (a .t) (a .id) (a .slot) (a .next) (a .mem .now) (found .locate .ensures) (c .before .enum-told .given .1))
 
 -- src/address.rt:75:9
 read-u64-requires : tie.Need-read-u64-requires
-read-u64-requires c κs = ?
+read-u64-requires c κs = let at = c .before .before in let found = at .before .before in let a = found .before .before .args in located-fits (length (a .mem .now)) (a .slot .entry) 8 (sym (found .locate .ensures) ∙ at .at .given .1)
 
 -- src/address.rt:76:52
 plus-requires : tie.Need-plus-requires
@@ -59,7 +67,14 @@ same-length c = search needs
 
 -- src/address.rt:78:9
 returns-2 : tie.Need-returns-2
-returns-2 c = ?
+returns-2 c =
+    let input = c .before .before .before in
+    let base = input .before .before in
+    let at = base .before .before .before in
+    let found = at .before .before in
+    let a = found .before .before .args in
+    rw (c .refused2 .ensures)
+    (fresh-no-input (a .pointer) (a .t) (a .id) (a .slot) (a .next) (a .mem .now) (found .locate .ensures) (at .at .given .1) (base .read-u64 .ensures) (input .before .plus .ensures) (input .locate2 .ensures) (c .before .enum-told2 .given .1))
 
 -- src/address.rt:80:26
 locate-requires-3 : tie.Need-locate-requires-3
@@ -82,11 +97,28 @@ same-length-2 c = search needs
 
 -- src/address.rt:81:9
 returns-3 : tie.Need-returns-3
-returns-3 c = ?
+returns-3 c =
+    let device = c .before .before .before in
+    let from = device .before .before in
+    let input = from .before .before in
+    let base = input .before .before in
+    let at = base .before .before .before in
+    let found = at .before .before in
+    let a = found .before .before .args in
+    rw (c .refused3 .ensures)
+    (fresh-no-device (a .pointer) (a .t) (a .id) (a .slot) (a .next) (a .mem .now) (found .locate .ensures) (at .at .given .1) (base .read-u64 .ensures) (input .before .plus .ensures) (input .locate2 .ensures) (from .from .given .1) (device .locate3 .ensures) (c .before .enum-told4 .given .1))
 
 -- src/address.rt:88:5
 copy-contexts-requires : tie.Need-copy-contexts-requires
-copy-contexts-requires c κs = ?
+copy-contexts-requires c κs =
+    let device = c .before .before .before in
+    let from = device .before .before in
+    let input = from .before .before in
+    let base = input .before .before in
+    let start = base .before .before .before .before .before .before .before in
+    let len = length (start .args .mem .now) in
+    (record { low = start .pre .0; high = start .pre .1; room = lies len (base .read-u64 .result) 64 (device .locate3 .ensures) (c .before .enum-told3 .given .1) },
+    (located-fits len (input .before .plus .result) 64 (sym (input .locate2 .ensures) ∙ from .from .given .1), omega arith))
 
 -- src/address.rt:60:1
 same-length-3 : tie.Need-same-length-3
@@ -94,7 +126,16 @@ same-length-3 c = search needs
 
 -- src/address.rt:60:1
 returns-4 : tie.Need-returns-4
-returns-4 c = ?
+returns-4 c =
+    let copy = c .before .before in
+    let device = copy .before .before .before .before in
+    let from = device .before .before in
+    let input = from .before .before in
+    let base = input .before .before in
+    let at = base .before .before .before in
+    let found = at .before .before in
+    let a = found .before .before .args in
+    fresh-goes (a .pointer) (a .t) (a .id) (a .slot) (a .next) (a .mem .now) (found .locate .ensures) (at .at .given .1) (base .read-u64 .ensures) (input .before .plus .ensures) (input .locate2 .ensures) (from .from .given .1) (device .locate3 .ensures) (copy .before .before .enum-told3 .given .1) (copy .copy-contexts .ensures)
 
 pub first-address-spec : {M : Type 1} → statement M
 first-address-spec =

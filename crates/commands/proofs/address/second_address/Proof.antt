@@ -1,3 +1,9 @@
+use mathlib.Core.Path.{sym, _∙_}
+use native.Mathlib.Omega.{arith}
+use lib.ListN.{length}
+use Rattle.guest.proofs.RunLaws.{located-fits}
+use Rattle.commands.specs.Types.{Addressed}
+use Rattle.commands.proofs.AddressLaws.{again-no-input, again-goes}
 use borrow.Author.Needs.{needs}
 use Rattle.commands.proofs.address.second_address.Statement.{statement}
 use Rattle.commands.proofs.address.second_address.Tie as tie
@@ -31,7 +37,10 @@ refused-requires c κs = search needs
 
 -- src/address.rt:101:9
 returns : tie.Need-returns
-returns c = ?
+returns c =
+    let input = c .before .before .before in
+    let a = input .before .before .before .args in
+    rw (c .refused .ensures) (again-no-input (a .pointer) (a .t1) (a .id) (a .slot) Addressed (a .mem .now) (input .before .plus .ensures) (input .locate .ensures) (c .before .enum-told .given .1))
 
 -- src/address.rt:103:15
 sub-k : tie.Need-sub-k
@@ -63,7 +72,14 @@ element-set-from-gone c = search needs
 
 -- src/address.rt:114:5
 copy-contexts-requires : tie.Need-copy-contexts-requires
-copy-contexts-requires c κs = ?
+copy-contexts-requires c κs =
+    let gone = c .before .before .before .before in
+    let from = gone .before .before .before .before in
+    let input = from .before .before in
+    let start = input .before .before .before in
+    let n = gone .end-one .kept .1 .0 in
+    (record { low = start .pre .0 .low; high = start .pre .0 .high; room = omega (arith, n, start .pre .0 .room) },
+    (omega (arith, n, located-fits (length (start .args .mem .now)) (input .before .plus .result) 64 (sym (input .locate .ensures) ∙ from .from .given .1)), omega arith))
 
 -- src/address.rt:92:1
 same-length : tie.Need-same-length
@@ -71,7 +87,14 @@ same-length c = search needs
 
 -- src/address.rt:92:1
 returns-2 : tie.Need-returns-2
-returns-2 c = ?
+returns-2 c =
+    let copy = c .before .before in
+    let gone = copy .before .before .before .before .before in
+    let from = gone .before .before .before .before in
+    let input = from .before .before in
+    let start = input .before .before .before in
+    let a = start .args in
+    again-goes (a .pointer) (a .t1) (a .id) (a .slot) Addressed (a .mem .now) (input .before .plus .ensures) (input .locate .ensures) (from .from .given .1) (start .pre .0 .room) (start .pre .1) (gone .end-one .ensures) (copy .copy-contexts .ensures)
 
 pub second-address-spec : {M : Type 1} → statement M
 second-address-spec =

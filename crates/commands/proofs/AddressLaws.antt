@@ -1,0 +1,199 @@
+-- What the code of Address Device does is what the definition's program does.
+-- Assumes nothing.
+use mathlib.Core.Path.{_≡_, refl, sym, ap, _∙_}
+use mathlib.Core.Logic.{⊎-elim}
+use mathlib.Core.Bool.{Bool, true, false}
+use mathlib.Core.List.{List, [], _∷_}
+use Prim.Native.Nat.{ℕ, _+_, _-_, _*_, _≤_}
+use native.Mathlib.Nat.{add-zero}
+use native.Mathlib.Omega.{arith}
+use types.Run.{OneOf}
+use denote.Enum.Declared.{tagOf}
+use lib.ListN.{length, getD, set}
+use Rattle.guest.specs.Bytes.{number, _⊕_, located, slotStateByte}
+use Rattle.guest.specs.Prog.{Mem, Prog, done, block, splice, Ran, run, Ends, bind, Result, ok, refuse, need}
+use Rattle.guest.specs.declared.Located.{Located}
+use Rattle.guest.specs.declared.Located.the-variants.{At, Outside}
+use Rattle.guest.proofs.RunLaws.{run-bind, run-get, after, ends-value, inside-yes, inside-no, need-yes, need-no, located-at, located-outside}
+use Rattle.guest.proofs.SpliceLaws.{block-length}
+use Rattle.definition.specs.Table.{isDisabled, disabled, endpointOf, withEndpoint, withSlot}
+use Rattle.definition.specs.Walks.{Walk, begin, terminate}
+use Rattle.definition.specs.Commands.{Told, contextState, walked, Plan, fresh, again, never, plan, copyContexts, carryOut, addressDevice}
+use Rattle.definition.specs.Calls as calls
+use Rattle.definition.specs.Calls.{meaning, told, prog}
+use Rattle.definition.specs.Rules.{Opened}
+use Rattle.definition.proofs.HeadLaws.{slot-opens}
+use Rattle.definition.proofs.FormedFacts.{InUse, Fits, formed-fits}
+use Rattle.endpoint.specs.Promises.{Terminates}
+use Rattle.endpoint.specs.declared.Terminated.{Terminated}
+use Rattle.contexts.specs.Checks.{Checks}
+use Rattle.contexts.specs.declared.Checked.{Checked}
+use Rattle.contexts.specs.declared.Checked.the-variants.{Adds, Refused}
+use Rattle.contexts.proofs.CheckLaws.{check-goes-on, check-refuses}
+use Rattle.scan.specs.Heads.{refusal}
+use Rattle.scan.proofs.OpeningLaws.{telling, meets-ok, refuses-with, refuses-at-once, meets-as, OnSlot, on-slot}
+use Rattle.walks.specs.declared.Launched.{Launched}
+use Rattle.walks.specs.Promises.{walk, CopyLaunches}
+use Rattle.walks.proofs.LaunchLaws.{copy-launch-one}
+use Rattle.walks.proofs.WalkLaws.{terminate-one}
+use Rattle.definition.proofs.SlotState.{the-type}
+use Rattle.commands.specs.Types.{Endpoint, SlotState, Free, Enabled, Default, Addressed, Configured, Slot, Table, Outcome}
+use Rattle.commands.specs.Promises.{tallied, Carries, Answers, Settles, Based}
+
+-- ---- endpoint 1, as the code finds it in the flat run
+
+abbrev pub first : Table → ℕ → Endpoint
+first t id = getD (t .endpoints) ((id - 1) * 31) disabled
+
+abbrev pub withFirst : Table → ℕ → Endpoint → Table
+withFirst t id e =
+    record { limit = t .limit; length = t .length; dcbaap = t .dcbaap; slots = t .slots; endpoints = set (t .endpoints) ((id - 1) * 31) e }
+
+pub is-first : (t : Table) (id : ℕ) → endpointOf t id 1 ≡ first t id
+unfolding endpointOf
+is-first t id = rw add-zero
+
+is-with-first : (t : Table) (id : ℕ) (e : Endpoint) → withEndpoint t id 1 e ≡ withFirst t id e
+unfolding withEndpoint
+is-with-first t id e = rw add-zero
+
+-- ---- the copies
+
+-- the slot context is read and stored, then the slot state byte; endpoint 1 is copied and launched
+pub copied : (t : Table) (id c : ℕ) (slot : Slot) (x s : ℕ) {m : Mem} {context : List ℕ} {at : ℕ} {m₁ m₂ : Mem} {r : Launched} {m′ : Mem}
+    → c + 32 ≤ length m → context ≡ block m c 32 → at ≡ slot .base → m₁ ≡ splice m at context
+    → m₂ ≡ splice m₁ (slot .base + 15) (slotStateByte (contextState (slot .state)) ∷ []) → CopyLaunches (slot .base) (c + 32) 1 m₂ r m′
+    → Carries (copyContexts id c (slot .base) (slot .state) (slot .entry) (walk t 0 x 0)) m s
+    (tallied (withSlot (withFirst t id (r .endpoint)) id slot) (record { launched = 2; terminated = x; port = r .port; stored = s + 66 })) m′
+unfolding copyContexts run
+copied t id c slot x s {m = m} {r = r} h a b d e l =
+    let n : s + length (block m c 32) + 1 + 33 ≡ s + 66 = omega (arith, block-length m c 32 h) in
+    let f : Walk → Result Told = λ v. ok (walked v, withSlot (v .table) id slot) in
+    record {
+      ends =
+          rw (← n, ← is-with-first t id (r .endpoint))
+          (record { ends = ends-value f (copy-launch-one id (slot .base) (c + 32) 1 (walk t 0 x 0) (rw (e, d, b, a) at l) (s + length (block m c 32) + 1)) .ends });
+    }
+
+-- ---- how a part of a call is answered
+
+-- what was carried out from the start is answered
+pub carried : (t : Table) {p : Prog (Result Told)} {m : Mem} {r : Outcome} {m′ : Mem} → Carries p m 0 r m′ → Settles p t m r m′
+carried t h = meets-ok t (h .ends)
+
+-- a program that runs as another is answered as it
+pub settles-as : (t : Table) (p q : Prog (Result Told)) {m : Mem} {r : Outcome} {m′ : Mem} → run p m 0 ≡ run q m 0 → Settles q t m r m′ → Settles p t m r m′
+settles-as t p q {m} e h =
+    let k : run (telling t p) m 0 ≡ run (telling t q) m 0 =
+        run-bind p (λ r. done (told t r)) m 0
+        ∙ ap (λ (x : Ran (Result Told)). run (done (told t (x .value))) (x .memory) (x .stored)) e
+        ∙ sym (run-bind q (λ r. done (told t r)) m 0) in
+    record { answer = rw k (h .answer); table = rw k (h .table); memory = rw k (h .memory) }
+
+-- ---- a range that the code has sought
+
+module _ (len a n : ℕ) {place : Located} (found : place ≡ located len a n) where
+  missing : (p : Prog (Result Told)) → place ≡ Outside → need len a n p ≡ done (refuse 193)
+  missing p o = need-no len a n p (inside-no len a n (located-outside len a n (sym found ∙ o)))
+
+  pub lies : {i : ℕ} → place ≡ At i → a + n ≤ len
+  lies h = inside-yes len a n (located-at len a n (sym found ∙ h) .1)
+
+  there : {i : ℕ} (p : Prog (Result Told)) → place ≡ At i → need len a n p ≡ p
+  there p h = need-yes len a n p (lies h)
+
+-- ---- a slot that is Enabled
+
+module _ (P : ℕ) (t : Table) (id : ℕ) (slot : Slot) (next : SlotState) (m : Mem) where
+  abbrev Fresh : Prog (Result Told)
+  Fresh = carryOut (length m) P t id slot (fresh next)
+
+  abbrev Copy : ℕ → Prog (Result Told)
+  Copy base = copyContexts id (P ⊕ 32) base next (slot .entry) (begin t)
+
+  module _ {entry : Located} (e : entry ≡ located (length m) (slot .entry) 8) where
+    pub fresh-no-entry : entry ≡ Outside → Settles Fresh t m (refusal t 193) m
+    unfolding carryOut
+    fresh-no-entry o = refuses-at-once t m (missing _ _ _ e _ o)
+
+    module _ {at base address : ℕ} {input : Located} (h : entry ≡ At at) (b : base ≡ number (block m at 8)) (a : address ≡ P ⊕ 32) (f : input ≡ located (length m) address 64) where
+      abbrev Sought : Prog (Result Told)
+      Sought = need (length m) (P ⊕ 32) 64 (need (length m) base 64 (Copy base))
+
+      fresh-base : run Fresh m 0 ≡ run Sought m 0
+      unfolding carryOut
+      fresh-base = rw (there _ _ _ e _ h, run-get, b, located-at (length m) (slot .entry) 8 (sym e ∙ h) .0)
+
+      pub fresh-no-input : input ≡ Outside → Settles Fresh t m (refusal t 193) m
+      fresh-no-input o = settles-as t Fresh Sought fresh-base (refuses-at-once t m (missing _ _ _ (f ∙ rw a) _ o))
+
+      module _ {from : ℕ} {device : Located} (i : input ≡ At from) (g : device ≡ located (length m) base 64) where
+        pub fresh-no-device : device ≡ Outside → Settles Fresh t m (refusal t 193) m
+        fresh-no-device o = settles-as t Fresh Sought fresh-base (refuses-at-once t m (there _ _ _ (f ∙ rw a) _ i ∙ missing _ _ _ g _ o))
+
+        pub fresh-goes : {d : ℕ} {r : Outcome} {m′ : Mem} → device ≡ At d → Carries (copyContexts id from base next (slot .entry) (walk t 0 0 0)) m 0 r m′ → Settles Fresh t m r m′
+        fresh-goes d w =
+            settles-as t Fresh Sought fresh-base
+            (meets-as t (there _ _ _ (f ∙ rw a) _ i ∙ there _ _ _ g _ d) (carried t (rw (located-at (length m) address 64 (sym f ∙ i) .0, a) at w)))
+
+-- ---- a slot that is Default
+
+module _ (P : ℕ) (t : Table) (id : ℕ) (slot : Slot) (next : SlotState) (m : Mem) {address : ℕ} {input : Located} (a : address ≡ P ⊕ 32) (f : input ≡ located (length m) address 64) where
+  pub again-no-input : input ≡ Outside → Settles (carryOut (length m) P t id slot (again next)) t m (refusal t 193) m
+  unfolding carryOut
+  again-no-input o = refuses-at-once t m (missing _ _ _ (f ∙ rw a) _ o)
+
+  pub again-goes : {from : ℕ} {gone : Terminated} {m₁ : Mem} {r : Outcome} {m′ : Mem} → input ≡ At from → slot .base + 64 ≤ length m
+      → isDisabled (endpointOf t id 1) ≡ false → Terminates (first t id) (slot .base ⊕ 32 * 1) m gone m₁
+      → Carries (copyContexts id from (slot .base) next (slot .entry) (walk (withFirst t id (gone .endpoint)) 0 2 0)) m₁ 1 r m′
+      → Settles (carryOut (length m) P t id slot (again next)) t m r m′
+  unfolding carryOut
+  again-goes {from} {gone} {m₁} i h d g w =
+      let e : Terminates (endpointOf t id 1) (slot .base ⊕ 32 * 1) m gone m₁ = rw is-first g in
+      let one : gone .stored ≡ 1 = e .count ∙ rw d in
+      let k : Ends (terminate id (slot .base) 1 (begin t)) m 0 (walk (withFirst t id (gone .endpoint)) 0 2 0) m₁ 1 =
+          rw (is-with-first, one) at (terminate-one id (slot .base) 1 (begin t) e 0) in
+      let v = rw (located-at (length m) address 64 (sym f ∙ i) .0, a) at w in
+      meets-as t (there _ _ _ (f ∙ rw a) _ i ∙ need-yes _ _ _ _ h)
+      (carried t (record { ends = record { ends = after (λ w. copyContexts id (P ⊕ 32) (slot .base) next (slot .entry) w) k ∙ v .ends .ends } }))
+
+-- ---- the plan
+
+pub plan-in : {state at : SlotState} {bsr is : Bool} → state ≡ at → bsr ≡ is → plan state bsr ≡ plan at is
+plan-in e f = cc
+
+-- the other states
+pub plan-other : (state : SlotState) (bsr : Bool) → OneOf (0 ∷ 3 ∷ 4 ∷ []) (tagOf the-type state) → plan state bsr ≡ never
+unfolding plan
+plan-other Free bsr h = refl
+plan-other Enabled bsr h = absurd (⊎-elim (λ e. omega arith) (⊎-elim (λ e. omega arith) (λ e. omega arith)) h)
+plan-other Default bsr h = absurd (⊎-elim (λ e. omega arith) (⊎-elim (λ e. omega arith) (λ e. omega arith)) h)
+plan-other Addressed bsr h = refl
+plan-other Configured bsr h = refl
+
+-- ---- the whole
+
+module _ {t : Table} {m : Mem} {id : ℕ} {s : Slot} (o : Opened t m id s) where
+  pub opened-on : OnSlot t (length m) id s
+  opened-on = on-slot t (length m) id (record { formed = o .formed; size = o .size }) (o .used)
+
+  pub default-fits : s .state ≡ Default → Based id (s .base) (length m) × (isDisabled (endpointOf t id 1) ≡ false)
+  default-fits d =
+      let k = opened-on in
+      let f : Fits (s .state) s t id = rw (k .slot) at (formed-fits t (k .formed) id (k .low, k .high)) in
+      let u : InUse (t .length) (s .base) id t = rw d at f in
+      (record { low = k .low; high = k .high; room = omega (arith, u .room, k .size) }, u .first)
+
+  module _ (P : ℕ) (bsr : Bool) {checked : Checked} (w : Checks P m checked) where
+    pub device-unchecked : {c : ℕ} → checked ≡ Refused c → Answers (calls.addressDevice id P bsr) t m (refusal t c) m
+    unfolding prog meaning addressDevice
+    device-unchecked e = meets-as t (slot-opens 11 t id _ m s o) (refuses-with t (check-refuses P m _ w e))
+
+    pub device-goes : {adds : ℕ} {p : Plan} {r : Outcome} {m′ : Mem} → checked ≡ Adds adds → plan (s .state) bsr ≡ p
+        → Settles (carryOut (length m) P t id s p) t m r m′ → Answers (calls.addressDevice id P bsr) t m r m′
+    unfolding prog meaning addressDevice
+    device-goes e q h = meets-as t (slot-opens 11 t id _ m s o) (settles-as t _ _ (check-goes-on P m _ w e) (rw q h))
+
+    pub device-never : {adds : ℕ} → checked ≡ Adds adds → plan (s .state) bsr ≡ never → Answers (calls.addressDevice id P bsr) t m (refusal t 19) m
+    unfolding carryOut
+    device-never e q = device-goes e q (refuses-at-once t m refl)
