@@ -11,19 +11,19 @@ use types.Run.{OneOf}
 use denote.Enum.Declared.{tagOf}
 use lib.ListN.{length, getD, set}
 use Rattle.guest.specs.Bytes.{number, _⊕_, located, slotStateByte}
-use Rattle.guest.specs.Prog.{Mem, Prog, done, block, splice, Ran, run, Ends, bind, Result, ok, refuse, need}
+use Rattle.guest.specs.Prog.{Mem, Prog, done, block, splice, run, Ends, bind, Result, ok, refuse, need}
 use Rattle.guest.specs.declared.Located.{Located}
 use Rattle.guest.specs.declared.Located.the-variants.{At, Outside}
-use Rattle.guest.proofs.RunLaws.{run-bind, run-get, after, ends-value, inside-yes, inside-no, need-yes, need-no, located-at, located-outside}
+use Rattle.guest.proofs.RunLaws.{run-get, after, ends-value, inside-yes, inside-no, need-yes, need-no, located-at, located-outside}
 use Rattle.guest.proofs.SpliceLaws.{block-length}
 use Rattle.definition.specs.Table.{isDisabled, disabled, endpointOf, withEndpoint, withSlot}
 use Rattle.definition.specs.Walks.{Walk, begin, terminate}
 use Rattle.definition.specs.Commands.{Told, contextState, walked, Plan, fresh, again, never, plan, copyContexts, carryOut, addressDevice}
 use Rattle.definition.specs.Calls as calls
-use Rattle.definition.specs.Calls.{meaning, told, prog}
+use Rattle.definition.specs.Calls.{meaning, prog}
 use Rattle.definition.specs.Rules.{Opened}
 use Rattle.definition.proofs.HeadLaws.{slot-opens}
-use Rattle.definition.proofs.FormedFacts.{InUse, Fits, formed-fits}
+use Rattle.definition.proofs.FormedFacts.{InUse}
 use Rattle.endpoint.specs.Promises.{Terminates}
 use Rattle.endpoint.specs.declared.Terminated.{Terminated}
 use Rattle.contexts.specs.Checks.{Checks}
@@ -31,12 +31,13 @@ use Rattle.contexts.specs.declared.Checked.{Checked}
 use Rattle.contexts.specs.declared.Checked.the-variants.{Adds, Refused}
 use Rattle.contexts.proofs.CheckLaws.{check-goes-on, check-refuses}
 use Rattle.scan.specs.Heads.{refusal}
-use Rattle.scan.proofs.OpeningLaws.{telling, meets-ok, refuses-with, refuses-at-once, meets-as, OnSlot, on-slot}
+use Rattle.scan.proofs.OpeningLaws.{refuses-with, refuses-at-once, meets-as}
 use Rattle.walks.specs.declared.Launched.{Launched}
 use Rattle.walks.specs.Promises.{walk, CopyLaunches}
 use Rattle.walks.proofs.LaunchLaws.{copy-launch-one}
 use Rattle.walks.proofs.WalkLaws.{terminate-one}
 use Rattle.definition.proofs.SlotState.{the-type}
+use Rattle.commands.proofs.OutcomeLaws.{carried, settles-as, opened-slot, opened-fits}
 use Rattle.commands.specs.Types.{Endpoint, SlotState, Free, Enabled, Default, Addressed, Configured, Slot, Table, Outcome}
 use Rattle.commands.specs.Promises.{tallied, Carries, Answers, Settles, Based}
 
@@ -74,21 +75,6 @@ copied t id c slot x s {m = m} {r = r} h a b d e l =
           rw (← n, ← is-with-first t id (r .endpoint))
           (record { ends = ends-value f (copy-launch-one id (slot .base) (c + 32) 1 (walk t 0 x 0) (rw (e, d, b, a) at l) (s + length (block m c 32) + 1)) .ends });
     }
-
--- ---- how a part of a call is answered
-
--- what was carried out from the start is answered
-pub carried : (t : Table) {p : Prog (Result Told)} {m : Mem} {r : Outcome} {m′ : Mem} → Carries p m 0 r m′ → Settles p t m r m′
-carried t h = meets-ok t (h .ends)
-
--- a program that runs as another is answered as it
-pub settles-as : (t : Table) (p q : Prog (Result Told)) {m : Mem} {r : Outcome} {m′ : Mem} → run p m 0 ≡ run q m 0 → Settles q t m r m′ → Settles p t m r m′
-settles-as t p q {m} e h =
-    let k : run (telling t p) m 0 ≡ run (telling t q) m 0 =
-        run-bind p (λ r. done (told t r)) m 0
-        ∙ ap (λ (x : Ran (Result Told)). run (done (told t (x .value))) (x .memory) (x .stored)) e
-        ∙ sym (run-bind q (λ r. done (told t r)) m 0) in
-    record { answer = rw k (h .answer); table = rw k (h .table); memory = rw k (h .memory) }
 
 -- ---- a range that the code has sought
 
@@ -174,14 +160,10 @@ plan-other Configured bsr h = refl
 -- ---- the whole
 
 module _ {t : Table} {m : Mem} {id : ℕ} {s : Slot} (o : Opened t m id s) where
-  pub opened-on : OnSlot t (length m) id s
-  opened-on = on-slot t (length m) id (record { formed = o .formed; size = o .size }) (o .used)
-
   pub default-fits : s .state ≡ Default → Based id (s .base) (length m) × (isDisabled (endpointOf t id 1) ≡ false)
   default-fits d =
-      let k = opened-on in
-      let f : Fits (s .state) s t id = rw (k .slot) at (formed-fits t (k .formed) id (k .low, k .high)) in
-      let u : InUse (t .length) (s .base) id t = rw d at f in
+      let k = opened-slot o in
+      let u : InUse (t .length) (s .base) id t = rw d at (opened-fits o) in
       (record { low = k .low; high = k .high; room = omega (arith, u .room, k .size) }, u .first)
 
   module _ (P : ℕ) (bsr : Bool) {checked : Checked} (w : Checks P m checked) where

@@ -8,14 +8,15 @@ use Prim.Native.Nat.{ℕ, _+_, _*_, _≤_}
 use native.Mathlib.Omega.{arith}
 use lib.ListN.{length}
 use Rattle.guest.specs.Bytes.{slotStateByte, count}
-use Rattle.guest.specs.Prog.{Mem, Prog, done, run, splice, Ends, bind, Result, ok, refuse}
-use Rattle.guest.proofs.RunLaws.{after, ends-value}
+use Rattle.guest.specs.Prog.{Mem, Prog, done, splice, Ran, run, Ends, bind, Result, ok, refuse}
+use Rattle.guest.proofs.RunLaws.{run-bind, after, ends-value}
 use Rattle.definition.specs.Table.{slotNumber, slotOf, withSlot, free}
 use Rattle.definition.specs.Walks.{begin}
 use Rattle.definition.specs.Commands.{Told, contextState, onSlot, settled, finish, deconfigure, freeing, walked}
+use Rattle.definition.specs.Calls.{told}
 use Rattle.definition.specs.Rules.{Opened}
 use Rattle.definition.proofs.FormedFacts.{Fits, InUse, formed-fits}
-use Rattle.scan.proofs.OpeningLaws.{OnSlot, on-slot, meets-ok, meets-as}
+use Rattle.scan.proofs.OpeningLaws.{telling, OnSlot, on-slot, meets-ok, meets-as}
 use Rattle.definition.proofs.HeadLaws.{slot-opens}
 use Rattle.walks.specs.Promises.{walk, Rooms, TerminatesAll}
 use Rattle.walks.specs.declared.Ended.{Ended}
@@ -78,6 +79,15 @@ settled-no Configured p h = let z : _≡_ {A = ℕ} 0 1 = cc in absurd (omega ar
 -- what a program that was carried out promises of its call
 pub carried : (t : Table) {p : Prog (Result Told)} {m : Mem} {r : Outcome} {m′ : Mem} → Carries p m 0 r m′ → Settles p t m r m′
 carried t c = meets-ok t (c .ends)
+
+-- a program that runs as another is answered as it
+pub settles-as : (t : Table) (p q : Prog (Result Told)) {m : Mem} {r : Outcome} {m′ : Mem} → run p m 0 ≡ run q m 0 → Settles q t m r m′ → Settles p t m r m′
+settles-as t p q {m} e h =
+    let k : run (telling t p) m 0 ≡ run (telling t q) m 0 =
+        run-bind p (λ r. done (told t r)) m 0
+        ∙ ap (λ (x : Ran (Result Told)). run (done (told t (x .value))) (x .memory) (x .stored)) e
+        ∙ sym (run-bind q (λ r. done (told t r)) m 0) in
+    record { answer = rw k (h .answer); table = rw k (h .table); memory = rw k (h .memory) }
 
 -- the slot's next state, and its state byte
 pub finished : (id : ℕ) (s : Slot) (next : SlotState) (t : Table) (l e p n : ℕ) (m : Mem)

@@ -104,7 +104,7 @@ pub fn set_dcbaap(t: Table, dcbaap: u64) -> Outcome
 // The smallest free id from 1 to the limit; 0 where there is none.
 fn first_free(t: Table) -> u64
     requires { ⌜ t .limit ≤ 16 ⌝ }
-    ensures { λ r. ⌜ r ≡ firstFree t ⌝ }
+    ensures { λ r. ⌜ (r ≡ firstFree t) × (r ≤ 16) ⌝ }
 {
     let limit = t.limit;
     let mut id: u64 = 1;

@@ -1,3 +1,5 @@
+use mathlib.Core.Path.{refl}
+use Rattle.definition.specs.Table.{freshTable}
 use Rattle.registers.proofs.fresh.Statement.{statement}
 use Rattle.registers.proofs.fresh.Tie as tie
 use Rattle.registers.proofs.fresh.Reads as reads
@@ -5,7 +7,8 @@ use Rattle.registers.proofs.fresh.Lts as lts
 
 -- src/lib.rt:48:1
 returns : tie.Need-returns
-returns c = ?
+unfolding freshTable
+returns c =     refl
 
 pub fresh-spec : {M : Type 1} → statement M
 fresh-spec = tie.close (tie.spec returns)

@@ -1,3 +1,5 @@
+use native.Mathlib.Omega.{arith}
+use borrow.Author.Tests.{le-leb, lt-leb}
 use borrow.Author.Needs.{needs}
 use Rattle.registers.proofs.make_table.Statement.{statement}
 use Rattle.registers.proofs.make_table.Tie as tie
@@ -16,7 +18,7 @@ plain-requires c κs = search needs
 
 -- src/lib.rt:65:9
 returns : tie.Need-returns
-returns c = ?
+returns c = let a = c .before .before .before .args in rw (c .before .fresh .ensures, c .plain .ensures, le-leb (a .length) 1073741824 (omega arith))
 
 -- src/lib.rt:71:16
 fresh-requires-2 : tie.Need-fresh-requires-2
@@ -28,7 +30,7 @@ plain-requires-2 c κs = search needs
 
 -- src/lib.rt:61:1
 returns-2 : tie.Need-returns-2
-returns-2 c = ?
+returns-2 c = let a = c .before .before .before .args in rw (c .before .fresh2 .ensures, c .plain2 .ensures, lt-leb (a .length) 1073741824 (omega arith))
 
 pub make-table-spec : {M : Type 1} → statement M
 make-table-spec =

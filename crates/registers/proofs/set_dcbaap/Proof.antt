@@ -1,3 +1,5 @@
+use Rattle.definition.specs.Table.{withRegisters}
+use Rattle.registers.proofs.RegisterLaws.{dcbaap-set}
 use borrow.Author.Needs.{needs}
 use Rattle.registers.proofs.set_dcbaap.Statement.{statement}
 use Rattle.registers.proofs.set_dcbaap.Tie as tie
@@ -11,7 +13,10 @@ plain-requires c κs = search needs
 
 -- src/lib.rt:93:1
 returns : tie.Need-returns
-returns c = ?
+unfolding withRegisters
+returns c =
+    let a = c .before in
+    rw (c .plain .ensures) (dcbaap-set (a .args .t) (a .pre) (a .args .dcbaap))
 
 pub set-dcbaap-spec : {M : Type 1} → statement M
 set-dcbaap-spec = tie.close (tie.spec plain-requires returns)

@@ -1,5 +1,6 @@
 use Rattle.definition.specs.Commands.{plan}
-use Rattle.commands.proofs.AddressLaws.{plan-in, plan-other, opened-on, default-fits, device-unchecked, device-goes, device-never}
+use Rattle.commands.proofs.AddressLaws.{plan-in, plan-other, default-fits, device-unchecked, device-goes, device-never}
+use Rattle.commands.proofs.OutcomeLaws.{opened-slot}
 use borrow.Author.Needs.{needs}
 use Rattle.commands.proofs.address.address_device.Statement.{statement}
 use Rattle.commands.proofs.address.address_device.Tie as tie
@@ -43,7 +44,7 @@ enum-told-2 c = search needs
 
 -- src/address.rt:137:17
 first-address-requires : tie.Need-first-address-requires
-first-address-requires c κs = let on = opened-on (c .before .before .before .before .before .before .before .before .before .pre) in (on .low, on .high)
+first-address-requires c κs = let on = opened-slot (c .before .before .before .before .before .before .before .before .before .pre) in (on .low, on .high)
 
 -- src/address.rt:137:17
 same-length-2 : tie.Need-same-length-2
@@ -62,7 +63,7 @@ returns-2 c =
 
 -- src/address.rt:139:13
 first-address-requires-2 : tie.Need-first-address-requires-2
-first-address-requires-2 c κs = let on = opened-on (c .before .before .before .before .before .before .before .before .before .pre) in (on .low, on .high)
+first-address-requires-2 c κs = let on = opened-slot (c .before .before .before .before .before .before .before .before .before .pre) in (on .low, on .high)
 
 -- src/address.rt:142:16
 enum-told-3 : tie.Need-enum-told-3

@@ -1,1 +1,0 @@
-pub use Rattle.commands.proofs.address.address_device.Symbol.{routine, name}

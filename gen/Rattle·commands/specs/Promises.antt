@@ -1,9 +1,0 @@
-pub use Rattle.commands.specs.Promises.{
-  tallied,
-  Carries,
-  Answers,
-  Settles,
-  Based,
-  isSettled,
-  reaching,
-}

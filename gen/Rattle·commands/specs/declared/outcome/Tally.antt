@@ -1,1 +1,0 @@
-pub use Rattle.commands.specs.declared.outcome.Tally.{Tally}

@@ -1,2 +1,0 @@
-pub use Rattle.commands.proofs.address.copy_contexts.Code.{routine}
-pub use Rattle.commands.proofs.address.copy_contexts.Key.{name}

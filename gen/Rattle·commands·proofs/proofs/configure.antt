@@ -1,3 +1,0 @@
-mod carry_out
-pub mod configure_endpoint
-mod reconfigure

@@ -1,8 +1,0 @@
--- the `use` lines below are this print's own: the module states none of them
-use Rattle.commands.proofs.configure.carry_out.Proof
-use Rattle.commands.proofs.configure.carry_out.Statement
-
-module _ {M : Type 1} where
-  -- antt refused `met` as it was built: the module's report says why
-  pub met : Statement.statement M
-  met = Proof.carry-out-spec

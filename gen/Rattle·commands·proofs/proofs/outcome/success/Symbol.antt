@@ -1,2 +1,0 @@
-pub use Rattle.commands.proofs.outcome.success.Code.{routine}
-pub use Rattle.commands.proofs.outcome.success.Key.{name}

@@ -1,2 +1,0 @@
-mod bit
-pub mod reach
