@@ -2,7 +2,7 @@
 -- Assumes nothing.
 use mathlib.Core.Path.{_≡_, refl, sym, ap, _∙_}
 use mathlib.Core.Logic.{⊎-elim}
-use mathlib.Core.Bool.{Bool, true, false}
+use mathlib.Core.Bool.{Bool, false}
 use mathlib.Core.List.{List, [], _∷_}
 use Prim.Native.Nat.{ℕ, _+_, _-_, _*_, _≤_}
 use native.Mathlib.Nat.{add-zero}
@@ -11,7 +11,7 @@ use types.Run.{OneOf}
 use denote.Enum.Declared.{tagOf}
 use lib.ListN.{length, getD, set}
 use Rattle.guest.specs.Bytes.{number, _⊕_, located, slotStateByte}
-use Rattle.guest.specs.Prog.{Mem, Prog, done, block, splice, Ran, run, Ends, bind, Result, ok, refuse, need}
+use Rattle.guest.specs.Prog.{Mem, Prog, done, block, splice, Ran, run, Ends, Result, ok, refuse, need}
 use Rattle.guest.specs.declared.Located.{Located}
 use Rattle.guest.specs.declared.Located.the-variants.{At, Outside}
 use Rattle.guest.proofs.RunLaws.{run-bind, run-get, after, ends-value, inside-yes, inside-no, need-yes, need-no, located-at, located-outside}
@@ -22,6 +22,7 @@ use Rattle.definition.specs.Commands.{Told, contextState, walked, Plan, fresh, 
 use Rattle.definition.specs.Calls as calls
 use Rattle.definition.specs.Calls.{meaning, told, prog}
 use Rattle.definition.specs.Rules.{Opened}
+use Rattle.definition.proofs.SlotState.{the-type}
 use Rattle.definition.proofs.HeadLaws.{slot-opens}
 use Rattle.definition.proofs.FormedFacts.{InUse, Fits, formed-fits}
 use Rattle.endpoint.specs.Promises.{Terminates}
@@ -36,7 +37,6 @@ use Rattle.walks.specs.declared.Launched.{Launched}
 use Rattle.walks.specs.Promises.{walk, CopyLaunches}
 use Rattle.walks.proofs.LaunchLaws.{copy-launch-one}
 use Rattle.walks.proofs.WalkLaws.{terminate-one}
-use Rattle.definition.proofs.SlotState.{the-type}
 use Rattle.commands.specs.Types.{Endpoint, SlotState, Free, Enabled, Default, Addressed, Configured, Slot, Table, Outcome}
 use Rattle.commands.specs.Promises.{tallied, Carries, Answers, Settles, Based}
 
@@ -49,7 +49,7 @@ abbrev pub withFirst : Table → ℕ → Endpoint → Table
 withFirst t id e =
     record { limit = t .limit; length = t .length; dcbaap = t .dcbaap; slots = t .slots; endpoints = set (t .endpoints) ((id - 1) * 31) e }
 
-pub is-first : (t : Table) (id : ℕ) → endpointOf t id 1 ≡ first t id
+is-first : (t : Table) (id : ℕ) → endpointOf t id 1 ≡ first t id
 unfolding endpointOf
 is-first t id = rw add-zero
 
@@ -84,10 +84,9 @@ carried t h = meets-ok t (h .ends)
 -- a program that runs as another is answered as it
 pub settles-as : (t : Table) (p q : Prog (Result Told)) {m : Mem} {r : Outcome} {m′ : Mem} → run p m 0 ≡ run q m 0 → Settles q t m r m′ → Settles p t m r m′
 settles-as t p q {m} e h =
-    let k : run (telling t p) m 0 ≡ run (telling t q) m 0 =
-        run-bind p (λ r. done (told t r)) m 0
-        ∙ ap (λ (x : Ran (Result Told)). run (done (told t (x .value))) (x .memory) (x .stored)) e
-        ∙ sym (run-bind q (λ r. done (told t r)) m 0) in
+    let f : Result Told → Prog Told = λ r. done (told t r) in
+    let then : Ran (Result Told) → Ran Told = λ x. run (f (x .value)) (x .memory) (x .stored) in
+    let k : run (telling t p) m 0 ≡ run (telling t q) m 0 = run-bind p f m 0 ∙ ap then e ∙ sym (run-bind q f m 0) in
     record { answer = rw k (h .answer); table = rw k (h .table); memory = rw k (h .memory) }
 
 -- ---- a range that the code has sought
@@ -152,17 +151,18 @@ module _ (P : ℕ) (t : Table) (id : ℕ) (slot : Slot) (next : SlotState) (m : 
       let e : Terminates (endpointOf t id 1) (slot .base ⊕ 32 * 1) m gone m₁ = rw is-first g in
       let one : gone .stored ≡ 1 = e .count ∙ rw d in
       let k : Ends (terminate id (slot .base) 1 (begin t)) m 0 (walk (withFirst t id (gone .endpoint)) 0 2 0) m₁ 1 =
-          rw (is-with-first, one) at (terminate-one id (slot .base) 1 (begin t) e 0) in
+      rw (is-with-first, one) at (terminate-one id (slot .base) 1 (begin t) e 0) in
       let v = rw (located-at (length m) address 64 (sym f ∙ i) .0, a) at w in
       meets-as t (there _ _ _ (f ∙ rw a) _ i ∙ need-yes _ _ _ _ h)
       (carried t (record { ends = record { ends = after (λ w. copyContexts id (P ⊕ 32) (slot .base) next (slot .entry) w) k ∙ v .ends .ends } }))
 
 -- ---- the plan
 
+-- a state and a flag that are known
 pub plan-in : {state at : SlotState} {bsr is : Bool} → state ≡ at → bsr ≡ is → plan state bsr ≡ plan at is
 plan-in e f = cc
 
--- the other states
+-- the states that no arm names
 pub plan-other : (state : SlotState) (bsr : Bool) → OneOf (0 ∷ 3 ∷ 4 ∷ []) (tagOf the-type state) → plan state bsr ≡ never
 unfolding plan
 plan-other Free bsr h = refl
@@ -177,6 +177,7 @@ module _ {t : Table} {m : Mem} {id : ℕ} {s : Slot} (o : Opened t m id s) where
   pub opened-on : OnSlot t (length m) id s
   opened-on = on-slot t (length m) id (record { formed = o .formed; size = o .size }) (o .used)
 
+  -- endpoint 1 of a Default slot is enabled, and its device context begins in memory
   pub default-fits : s .state ≡ Default → Based id (s .base) (length m) × (isDisabled (endpointOf t id 1) ≡ false)
   default-fits d =
       let k = opened-on in
@@ -185,6 +186,7 @@ module _ {t : Table} {m : Mem} {id : ℕ} {s : Slot} (o : Opened t m id s) where
       (record { low = k .low; high = k .high; room = omega (arith, u .room, k .size) }, u .first)
 
   module _ (P : ℕ) (bsr : Bool) {checked : Checked} (w : Checks P m checked) where
+    -- the context check refuses; it passes, and the plan is carried out; the plan is never
     pub device-unchecked : {c : ℕ} → checked ≡ Refused c → Answers (calls.addressDevice id P bsr) t m (refusal t c) m
     unfolding prog meaning addressDevice
     device-unchecked e = meets-as t (slot-opens 11 t id _ m s o) (refuses-with t (check-refuses P m _ w e))
