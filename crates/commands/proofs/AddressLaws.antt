@@ -2,7 +2,7 @@
 -- Assumes nothing.
 use mathlib.Core.Path.{_≡_, refl, sym, ap, _∙_}
 use mathlib.Core.Logic.{⊎-elim}
-use mathlib.Core.Bool.{Bool, true, false}
+use mathlib.Core.Bool.{Bool, false}
 use mathlib.Core.List.{List, [], _∷_}
 use Prim.Native.Nat.{ℕ, _+_, _-_, _*_, _≤_}
 use native.Mathlib.Nat.{add-zero}
@@ -11,7 +11,7 @@ use types.Run.{OneOf}
 use denote.Enum.Declared.{tagOf}
 use lib.ListN.{length, getD, set}
 use Rattle.guest.specs.Bytes.{number, _⊕_, located, slotStateByte}
-use Rattle.guest.specs.Prog.{Mem, Prog, done, block, splice, run, Ends, bind, Result, ok, refuse, need}
+use Rattle.guest.specs.Prog.{Mem, Prog, done, block, splice, run, Ends, Result, ok, refuse, need}
 use Rattle.guest.specs.declared.Located.{Located}
 use Rattle.guest.specs.declared.Located.the-variants.{At, Outside}
 use Rattle.guest.proofs.RunLaws.{run-get, after, ends-value, inside-yes, inside-no, need-yes, need-no, located-at, located-outside}
@@ -22,6 +22,7 @@ use Rattle.definition.specs.Commands.{Told, contextState, walked, Plan, fresh, 
 use Rattle.definition.specs.Calls as calls
 use Rattle.definition.specs.Calls.{meaning, prog}
 use Rattle.definition.specs.Rules.{Opened}
+use Rattle.definition.proofs.SlotState.{the-type}
 use Rattle.definition.proofs.HeadLaws.{slot-opens}
 use Rattle.definition.proofs.FormedFacts.{InUse}
 use Rattle.endpoint.specs.Promises.{Terminates}
@@ -36,7 +37,6 @@ use Rattle.walks.specs.declared.Launched.{Launched}
 use Rattle.walks.specs.Promises.{walk, CopyLaunches}
 use Rattle.walks.proofs.LaunchLaws.{copy-launch-one}
 use Rattle.walks.proofs.WalkLaws.{terminate-one}
-use Rattle.definition.proofs.SlotState.{the-type}
 use Rattle.commands.proofs.OutcomeLaws.{carried, settles-as, opened-slot, opened-fits}
 use Rattle.commands.specs.Types.{Endpoint, SlotState, Free, Enabled, Default, Addressed, Configured, Slot, Table, Outcome}
 use Rattle.commands.specs.Promises.{tallied, Carries, Answers, Settles, Based}
@@ -50,7 +50,7 @@ abbrev pub withFirst : Table → ℕ → Endpoint → Table
 withFirst t id e =
     record { limit = t .limit; length = t .length; dcbaap = t .dcbaap; slots = t .slots; endpoints = set (t .endpoints) ((id - 1) * 31) e }
 
-pub is-first : (t : Table) (id : ℕ) → endpointOf t id 1 ≡ first t id
+is-first : (t : Table) (id : ℕ) → endpointOf t id 1 ≡ first t id
 unfolding endpointOf
 is-first t id = rw add-zero
 
@@ -145,10 +145,11 @@ module _ (P : ℕ) (t : Table) (id : ℕ) (slot : Slot) (next : SlotState) (m : 
 
 -- ---- the plan
 
+-- a state and a flag that are known
 pub plan-in : {state at : SlotState} {bsr is : Bool} → state ≡ at → bsr ≡ is → plan state bsr ≡ plan at is
 plan-in e f = cc
 
--- the other states
+-- the states that no arm names
 pub plan-other : (state : SlotState) (bsr : Bool) → OneOf (0 ∷ 3 ∷ 4 ∷ []) (tagOf the-type state) → plan state bsr ≡ never
 unfolding plan
 plan-other Free bsr h = refl
@@ -160,6 +161,7 @@ plan-other Configured bsr h = refl
 -- ---- the whole
 
 module _ {t : Table} {m : Mem} {id : ℕ} {s : Slot} (o : Opened t m id s) where
+  -- endpoint 1 of a Default slot is enabled, and its device context begins in memory
   pub default-fits : s .state ≡ Default → Based id (s .base) (length m) × (isDisabled (endpointOf t id 1) ≡ false)
   default-fits d =
       let k = opened-slot o in
@@ -167,6 +169,7 @@ module _ {t : Table} {m : Mem} {id : ℕ} {s : Slot} (o : Opened t m id s) where
       (record { low = k .low; high = k .high; room = omega (arith, u .room, k .size) }, u .first)
 
   module _ (P : ℕ) (bsr : Bool) {checked : Checked} (w : Checks P m checked) where
+    -- the context check refuses; it passes, and the plan is carried out; the plan is never
     pub device-unchecked : {c : ℕ} → checked ≡ Refused c → Answers (calls.addressDevice id P bsr) t m (refusal t c) m
     unfolding prog meaning addressDevice
     device-unchecked e = meets-as t (slot-opens 11 t id _ m s o) (refuses-with t (check-refuses P m _ w e))

@@ -93,7 +93,7 @@ module _ (id P : ℕ) (s : Slot) (t : Table) (m : Mem) where
 pub ranges-space : (len P adds : ℕ) {id base : ℕ} {inside : Bool} → inside ≡ rangesInside len P base adds → inside ≡ true → Based id base len → Spaces P base adds len
 ranges-space len P adds {id} {base} i f b k lo hi d =
     let g = added-fits len P base adds (sym i ∙ f) k lo (omega arith) d in
-    record { low = hi; input = g .input; output = g .device; head = b .room }
+    record { input = g .input; output = g .device; head = b .room }
 
 -- ---- the call on a slot that was found
 

@@ -83,10 +83,9 @@ carried t c = meets-ok t (c .ends)
 -- a program that runs as another is answered as it
 pub settles-as : (t : Table) (p q : Prog (Result Told)) {m : Mem} {r : Outcome} {m′ : Mem} → run p m 0 ≡ run q m 0 → Settles q t m r m′ → Settles p t m r m′
 settles-as t p q {m} e h =
-    let k : run (telling t p) m 0 ≡ run (telling t q) m 0 =
-        run-bind p (λ r. done (told t r)) m 0
-        ∙ ap (λ (x : Ran (Result Told)). run (done (told t (x .value))) (x .memory) (x .stored)) e
-        ∙ sym (run-bind q (λ r. done (told t r)) m 0) in
+    let f : Result Told → Prog Told = λ r. done (told t r) in
+    let then : Ran (Result Told) → Ran Told = λ x. run (f (x .value)) (x .memory) (x .stored) in
+    let k : run (telling t p) m 0 ≡ run (telling t q) m 0 = run-bind p f m 0 ∙ ap then e ∙ sym (run-bind q f m 0) in
     record { answer = rw k (h .answer); table = rw k (h .table); memory = rw k (h .memory) }
 
 -- the slot's next state, and its state byte

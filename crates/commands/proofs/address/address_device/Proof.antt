@@ -1,56 +1,41 @@
-use Rattle.definition.specs.Commands.{plan}
-use Rattle.commands.proofs.AddressLaws.{plan-in, plan-other, default-fits, device-unchecked, device-goes, device-never}
-use Rattle.commands.proofs.OutcomeLaws.{opened-slot}
+-- `commands::address::address_device` meets its contract. Assumes nothing.
 use borrow.Author.Needs.{needs}
+use Rattle.definition.specs.Commands.{plan}
+use Rattle.commands.proofs.OutcomeLaws.{opened-slot}
+use Rattle.commands.proofs.AddressLaws.{plan-in, plan-other, default-fits, device-unchecked, device-goes, device-never}
 use Rattle.commands.proofs.address.address_device.Statement.{statement}
 use Rattle.commands.proofs.address.address_device.Tie as tie
-use Rattle.commands.proofs.address.address_device.Reads as reads
-use Rattle.commands.proofs.address.address_device.Lts as lts
-use Rattle.commands.proofs.address.first_address.Reads as first-address-reads
-use Rattle.commands.proofs.address.second_address.Reads as second-address-reads
-use Rattle.contexts.proofs.context_check.Reads as context-check-reads
-use Rattle.scan.proofs.refused.Reads as refused-reads
 
--- src/address.rt:129:9
 context-check-requires : tie.Need-context-check-requires
 context-check-requires c κs = search needs
 
--- src/address.rt:130:29
 enum-known-checked : tie.Need-enum-known-checked
 enum-known-checked c = search needs
 
--- src/address.rt:131:9
 refused-requires : tie.Need-refused-requires
 refused-requires c κs = search needs
 
--- src/address.rt:131:9
 same-length : tie.Need-same-length
 same-length c = search needs
 
--- src/address.rt:131:9
 returns : tie.Need-returns
 returns c =
     let check = c .before .before .before .before in
     let start = check .before .before .before in
-    let a = start .args in
-    rw (c .refused .ensures) (device-unchecked (start .pre) (a .pointer) (a .bsr) (check .context-check .ensures) (c .before .before .checked .given .1))
+    rw (c .refused .ensures) (device-unchecked (start .pre) _ _ (check .context-check .ensures) (c .before .before .checked .given .1))
 
 enum-told : tie.Need-enum-told
 enum-told c = search needs
 
--- src/address.rt:136:16
 enum-told-2 : tie.Need-enum-told-2
 enum-told-2 c = search needs
 
--- src/address.rt:137:17
 first-address-requires : tie.Need-first-address-requires
 first-address-requires c κs = let on = opened-slot (c .before .before .before .before .before .before .before .before .before .pre) in (on .low, on .high)
 
--- src/address.rt:137:17
 same-length-2 : tie.Need-same-length-2
 same-length-2 c = search needs
 
--- src/address.rt:137:17
 returns-2 : tie.Need-returns-2
 unfolding plan
 returns-2 c =
@@ -58,26 +43,20 @@ returns-2 c =
     let go = if .before .before .before in
     let check = go .before .before in
     let start = check .before .before .before in
-    let a = start .args in
-    device-goes (start .pre) (a .pointer) (a .bsr) (check .context-check .ensures) (go .enum-told .given .1) (plan-in (if .before .enum-told2 .given .1) (if .if1 .taken)) (c .before .before .first-address .ensures)
+    device-goes (start .pre) _ _ (check .context-check .ensures) (go .enum-told .given .1) (plan-in (if .before .enum-told2 .given .1) (if .if1 .taken)) (c .before .before .first-address .ensures)
 
--- src/address.rt:139:13
 first-address-requires-2 : tie.Need-first-address-requires-2
 first-address-requires-2 c κs = let on = opened-slot (c .before .before .before .before .before .before .before .before .before .pre) in (on .low, on .high)
 
--- src/address.rt:142:16
 enum-told-3 : tie.Need-enum-told-3
 enum-told-3 c = search needs
 
--- src/address.rt:143:17
 refused-requires-2 : tie.Need-refused-requires-2
 refused-requires-2 c κs = search needs
 
--- src/address.rt:143:17
 same-length-3 : tie.Need-same-length-3
 same-length-3 c = search needs
 
--- src/address.rt:143:17
 returns-3 : tie.Need-returns-3
 unfolding plan
 returns-3 c =
@@ -85,23 +64,18 @@ returns-3 c =
     let go = if .before .before .before in
     let check = go .before .before in
     let start = check .before .before .before in
-    let a = start .args in
     rw (c .refused2 .ensures)
-    (device-never (start .pre) (a .pointer) (a .bsr) (check .context-check .ensures) (go .enum-told .given .1) (plan-in (if .before .enum-told3 .given .1) (if .if2 .taken)))
+    (device-never (start .pre) _ _ (check .context-check .ensures) (go .enum-told .given .1) (plan-in (if .before .enum-told3 .given .1) (if .if2 .taken)))
 
--- src/address.rt:145:13
 second-address-requires : tie.Need-second-address-requires
 second-address-requires c κs = default-fits (c .before .before .before .before .before .before .before .before .before .pre) (c .before .before .enum-told3 .given .1)
 
--- src/address.rt:147:14
 refused-requires-3 : tie.Need-refused-requires-3
 refused-requires-3 c κs = search needs
 
--- src/address.rt:118:1
 same-length-4 : tie.Need-same-length-4
 same-length-4 c = search needs
 
--- src/address.rt:118:1
 returns-4 : tie.Need-returns-4
 unfolding plan
 returns-4 c =
@@ -109,14 +83,11 @@ returns-4 c =
     let go = if .before .before .before in
     let check = go .before .before in
     let start = check .before .before .before in
-    let a = start .args in
-    device-goes (start .pre) (a .pointer) (a .bsr) (check .context-check .ensures) (go .enum-told .given .1) (plan-in (if .before .enum-told2 .given .1) (if .if1 .left)) (c .before .before .first-address2 .ensures)
+    device-goes (start .pre) _ _ (check .context-check .ensures) (go .enum-told .given .1) (plan-in (if .before .enum-told2 .given .1) (if .if1 .left)) (c .before .before .first-address2 .ensures)
 
--- src/address.rt:118:1
 same-length-5 : tie.Need-same-length-5
 same-length-5 c = search needs
 
--- src/address.rt:118:1
 returns-5 : tie.Need-returns-5
 unfolding plan
 returns-5 c =
@@ -124,22 +95,18 @@ returns-5 c =
     let go = if .before .before .before in
     let check = go .before .before in
     let start = check .before .before .before in
-    let a = start .args in
-    device-goes (start .pre) (a .pointer) (a .bsr) (check .context-check .ensures) (go .enum-told .given .1) (plan-in (if .before .enum-told3 .given .1) (if .if2 .left)) (c .before .before .second-address .ensures)
+    device-goes (start .pre) _ _ (check .context-check .ensures) (go .enum-told .given .1) (plan-in (if .before .enum-told3 .given .1) (if .if2 .left)) (c .before .before .second-address .ensures)
 
--- src/address.rt:118:1
 same-length-6 : tie.Need-same-length-6
 same-length-6 c = search needs
 
--- src/address.rt:118:1
 returns-6 : tie.Need-returns-6
 returns-6 c =
     let go = c .before .before in
     let check = go .before .before in
     let start = check .before .before .before in
-    let a = start .args in
     rw (c .refused3 .ensures)
-    (device-never (start .pre) (a .pointer) (a .bsr) (check .context-check .ensures) (go .enum-told .given .1) (plan-other (a .slot .state) (a .bsr) (c .before .match2 .keys3)))
+    (device-never (start .pre) _ _ (check .context-check .ensures) (go .enum-told .given .1) (plan-other (start .args .slot .state) _ (c .before .match2 .keys3)))
 
 pub address-device-spec : {M : Type 1} → statement M
 address-device-spec =

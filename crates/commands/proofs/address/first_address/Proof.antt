@@ -1,101 +1,75 @@
+-- `commands::address::first_address` meets its contract. Assumes nothing.
 use mathlib.Core.Path.{sym, _∙_}
 use native.Mathlib.Omega.{arith}
 use lib.ListN.{length}
+use borrow.Author.Needs.{needs}
 use Rattle.guest.proofs.RunLaws.{located-fits}
 use Rattle.commands.proofs.AddressLaws.{lies, fresh-no-entry, fresh-no-input, fresh-no-device, fresh-goes}
-use borrow.Author.Needs.{needs}
 use Rattle.commands.proofs.address.first_address.Statement.{statement}
 use Rattle.commands.proofs.address.first_address.Tie as tie
-use Rattle.commands.proofs.address.first_address.Reads as reads
-use Rattle.commands.proofs.address.first_address.Lts as lts
-use Rattle.commands.proofs.address.copy_contexts.Reads as copy-contexts-reads
-use Rattle.guest.proofs.address.locate.Reads as locate-reads
-use Rattle.guest.proofs.address.plus.Reads as plus-reads
-use Rattle.guest.proofs.words.read_u64.Reads as read-u64-reads
-use Rattle.scan.proofs.refused.Reads as refused-reads
 
--- src/address.rt:72:27
 locate-requires : tie.Need-locate-requires
 locate-requires c κs = search needs
 
--- src/address.rt:72:21
 enum-known-at : tie.Need-enum-known-at
 enum-known-at c = search needs
 
--- src/address.rt:73:9
 enum-told : tie.Need-enum-told
 enum-told c = search needs
 
--- src/address.rt:73:9
 refused-requires : tie.Need-refused-requires
 refused-requires c κs = search needs
 
--- src/address.rt:73:9
 returns : tie.Need-returns
 returns c =
     let found = c .before .before .before in
-    let a = found .before .before .args in
-    rw (c .refused .ensures) (fresh-no-entry (a .pointer) (a .t) (a .id) (a .slot) (a .next) (a .mem .now) (found .locate .ensures) (c .before .enum-told .given .1))
+    rw (c .refused .ensures) (fresh-no-entry _ _ _ _ _ _ (found .locate .ensures) (c .before .enum-told .given .1))
 
--- src/address.rt:75:9
 read-u64-requires : tie.Need-read-u64-requires
 read-u64-requires c κs = let at = c .before .before in let found = at .before .before in let a = found .before .before .args in located-fits (length (a .mem .now)) (a .slot .entry) 8 (sym (found .locate .ensures) ∙ at .at .given .1)
 
--- src/address.rt:76:52
 plus-requires : tie.Need-plus-requires
 plus-requires c κs = search needs
 
--- src/address.rt:76:29
 locate-requires-2 : tie.Need-locate-requires-2
 locate-requires-2 c κs = search needs
 
--- src/address.rt:76:21
 enum-known-from : tie.Need-enum-known-from
 enum-known-from c = search needs
 
--- src/address.rt:78:9
 enum-told-2 : tie.Need-enum-told-2
 enum-told-2 c = search needs
 
--- src/address.rt:78:9
 refused-requires-2 : tie.Need-refused-requires-2
 refused-requires-2 c κs = search needs
 
--- src/address.rt:78:9
 same-length : tie.Need-same-length
 same-length c = search needs
 
--- src/address.rt:78:9
 returns-2 : tie.Need-returns-2
 returns-2 c =
     let input = c .before .before .before in
     let base = input .before .before in
     let at = base .before .before .before in
     let found = at .before .before in
-    let a = found .before .before .args in
     rw (c .refused2 .ensures)
-    (fresh-no-input (a .pointer) (a .t) (a .id) (a .slot) (a .next) (a .mem .now) (found .locate .ensures) (at .at .given .1) (base .read-u64 .ensures) (input .before .plus .ensures) (input .locate2 .ensures) (c .before .enum-told2 .given .1))
+    (fresh-no-input _ _ _ _ _ _ (found .locate .ensures) (at .at .given .1) (base .read-u64 .ensures) (input .before .plus .ensures) (input .locate2 .ensures) (c .before .enum-told2 .given .1))
 
--- src/address.rt:80:26
 locate-requires-3 : tie.Need-locate-requires-3
 locate-requires-3 c κs = search needs
 
 enum-told-3 : tie.Need-enum-told-3
 enum-told-3 c = search needs
 
--- src/address.rt:81:9
 enum-told-4 : tie.Need-enum-told-4
 enum-told-4 c = search needs
 
--- src/address.rt:81:9
 refused-requires-3 : tie.Need-refused-requires-3
 refused-requires-3 c κs = search needs
 
--- src/address.rt:81:9
 same-length-2 : tie.Need-same-length-2
 same-length-2 c = search needs
 
--- src/address.rt:81:9
 returns-3 : tie.Need-returns-3
 returns-3 c =
     let device = c .before .before .before in
@@ -104,11 +78,9 @@ returns-3 c =
     let base = input .before .before in
     let at = base .before .before .before in
     let found = at .before .before in
-    let a = found .before .before .args in
     rw (c .refused3 .ensures)
-    (fresh-no-device (a .pointer) (a .t) (a .id) (a .slot) (a .next) (a .mem .now) (found .locate .ensures) (at .at .given .1) (base .read-u64 .ensures) (input .before .plus .ensures) (input .locate2 .ensures) (from .from .given .1) (device .locate3 .ensures) (c .before .enum-told4 .given .1))
+    (fresh-no-device _ _ _ _ _ _ (found .locate .ensures) (at .at .given .1) (base .read-u64 .ensures) (input .before .plus .ensures) (input .locate2 .ensures) (from .from .given .1) (device .locate3 .ensures) (c .before .enum-told4 .given .1))
 
--- src/address.rt:88:5
 copy-contexts-requires : tie.Need-copy-contexts-requires
 copy-contexts-requires c κs =
     let device = c .before .before .before in
@@ -116,15 +88,14 @@ copy-contexts-requires c κs =
     let input = from .before .before in
     let base = input .before .before in
     let start = base .before .before .before .before .before .before .before in
-    let len = length (start .args .mem .now) in
-    (record { low = start .pre .0; high = start .pre .1; room = lies len (base .read-u64 .result) 64 (device .locate3 .ensures) (c .before .enum-told3 .given .1) },
-    (located-fits len (input .before .plus .result) 64 (sym (input .locate2 .ensures) ∙ from .from .given .1), omega arith))
+    let len = length (start .args .mem .now) in (
+      record { low = start .pre .0; high = start .pre .1; room = lies len (base .read-u64 .result) 64 (device .locate3 .ensures) (c .before .enum-told3 .given .1) },
+      (located-fits len (input .before .plus .result) 64 (sym (input .locate2 .ensures) ∙ from .from .given .1), omega arith),
+    )
 
--- src/address.rt:60:1
 same-length-3 : tie.Need-same-length-3
 same-length-3 c = search needs
 
--- src/address.rt:60:1
 returns-4 : tie.Need-returns-4
 returns-4 c =
     let copy = c .before .before in
@@ -134,8 +105,7 @@ returns-4 c =
     let base = input .before .before in
     let at = base .before .before .before in
     let found = at .before .before in
-    let a = found .before .before .args in
-    fresh-goes (a .pointer) (a .t) (a .id) (a .slot) (a .next) (a .mem .now) (found .locate .ensures) (at .at .given .1) (base .read-u64 .ensures) (input .before .plus .ensures) (input .locate2 .ensures) (from .from .given .1) (device .locate3 .ensures) (copy .before .before .enum-told3 .given .1) (copy .copy-contexts .ensures)
+    fresh-goes _ _ _ _ _ _ (found .locate .ensures) (at .at .given .1) (base .read-u64 .ensures) (input .before .plus .ensures) (input .locate2 .ensures) (from .from .given .1) (device .locate3 .ensures) (copy .before .before .enum-told3 .given .1) (copy .copy-contexts .ensures)
 
 pub first-address-spec : {M : Type 1} → statement M
 first-address-spec =
