@@ -31,23 +31,31 @@ abbrev pub Free : Table → ℕ → Bool
 Free t id = isFree (slotOf t id)
 
 -- the ids from `id` to the limit are still to be looked at
-abbrev pub Rest : Table → ℕ → ℕ
+abbrev Rest : Table → ℕ → ℕ
 Rest t id = firstOf (those (Free t) (count (t .limit + 1 - id) id))
 
-pub rest-starts : (t : Table) → Rest t 1 ≡ firstFree t
+-- none before `id` is free
+pub record Sought (t : Table) (id : ℕ) : Type 0 where
+  pub low : 1 ≤ id
+  pub high : id ≤ t .limit + 1
+  pub rest : firstFree t ≡ Rest t id
+
+pub sought-begins : (t : Table) → Sought t 1
 unfolding firstFree
-rest-starts t = let e : t .limit + 1 - 1 ≡ t .limit = omega arith in rw e
+sought-begins t = let e : t .limit + 1 - 1 ≡ t .limit = omega arith in record { low = omega arith; high = omega arith; rest = rw e }
 
-module _ (t : Table) (id : ℕ) where
-  pub rest-found : id ≤ t .limit → Free t id ≡ true → Rest t id ≡ id
-  rest-found h f = rw (count-first (t .limit + 1) id (omega arith), those-yes (Free t) id (count (t .limit + 1 - (id + 1)) (id + 1)) f)
+module _ {t : Table} {id : ℕ} (s : Sought t id) where
+  pub sought-found : id ≤ t .limit → Free t id ≡ true → id ≡ firstFree t
+  sought-found h f = sym (s .rest ∙ rw (count-first (t .limit + 1) id (omega arith), those-yes (Free t) id (count (t .limit + 1 - (id + 1)) (id + 1)) f))
 
-  pub rest-next : id ≤ t .limit → Free t id ≡ false → Rest t id ≡ Rest t (id + 1)
-  rest-next h f = rw (count-first (t .limit + 1) id (omega arith), those-no (Free t) id (count (t .limit + 1 - (id + 1)) (id + 1)) f)
+  pub sought-next : id ≤ t .limit → Free t id ≡ false → Sought t (id + 1)
+  sought-next h f =
+      let e : Rest t id ≡ Rest t (id + 1) = rw (count-first (t .limit + 1) id (omega arith), those-no (Free t) id (count (t .limit + 1 - (id + 1)) (id + 1)) f) in
+      record { low = omega arith; high = omega arith; rest = s .rest ∙ e }
 
-  pub rest-none : t .limit < id → Rest t id ≡ 0
+  pub sought-none : t .limit < id → 0 ≡ firstFree t
   unfolding those
-  rest-none h = rw (count-none (t .limit + 1 - id) id (omega arith))
+  sought-none h = sym (s .rest ∙ rw (count-none (t .limit + 1 - id) id (omega arith)))
 
 -- ---- the calls
 

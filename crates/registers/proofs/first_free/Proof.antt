@@ -1,54 +1,56 @@
+-- `registers::first_free` meets its contract. Assumes nothing.
+use mathlib.Core.Path.{sym, _∙_}
+use Prim.Native.Nat.{_+_, _-_}
+use native.Mathlib.Omega.{arith}
+use borrow.Author.Needs.{needs}
+use Rattle.definition.specs.Table.{slotOf}
+use Rattle.registers.proofs.RegisterLaws.{Sought, sought-begins, sought-found, sought-next, sought-none}
 use Rattle.registers.proofs.first_free.Statement.{statement}
 use Rattle.registers.proofs.first_free.Tie as tie
-use Rattle.registers.proofs.first_free.Reads as reads
-use Rattle.registers.proofs.first_free.Lts as lts
-use Rattle.scan.proofs.records.is_free.Reads as is-free-reads
 
 abbrev Inv-loop : tie.InvT-loop
-Inv-loop t limit id₀ id = ?
+Inv-loop t limit id₀ id = Sought t id
 
 abbrev μ-loop : tie.MeasureT-loop
-μ-loop t limit id₀ id = ?
+μ-loop t limit id₀ id = limit + 1 - id
 
--- src/lib.rt:111:5
 loop-holds : tie.Need-loop-holds Inv-loop μ-loop
-loop-holds c = ?
+loop-holds c = sought-begins (c .args .t1)
 
--- src/lib.rt:112:18
 sub-j : tie.Need-sub-j Inv-loop μ-loop
-sub-j c = ?
+sub-j c = search needs
 
--- src/lib.rt:113:20
 mul-slot : tie.Need-mul-slot Inv-loop μ-loop
-mul-slot c = ?
+mul-slot c = search needs
 
--- src/lib.rt:113:20
 element-copy-out-slot : tie.Need-element-copy-out-slot Inv-loop μ-loop
-element-copy-out-slot c = ?
+element-copy-out-slot c = search needs
 
--- src/lib.rt:115:12
 is-free-requires : tie.Need-is-free-requires Inv-loop μ-loop
-is-free-requires c κs = ?
+is-free-requires c κs = search needs
 
--- src/lib.rt:116:13
 returns : tie.Need-returns Inv-loop μ-loop
-returns c = ?
+unfolding slotOf
+returns c =
+    let b = c .before .before in
+    let l = b .before .before in
+    (sought-found (l .loop .inv) (b .before .loop-test .taken) (sym (c .before .is-free .ensures) ∙ c .if1 .taken), omega (arith, l .before .pre, b .before .loop-test .taken))
 
--- src/lib.rt:118:9
 add-id : tie.Need-add-id Inv-loop μ-loop
-add-id c = ?
+add-id c = search needs
 
--- src/lib.rt:111:5
 loop-less : tie.Need-loop-less Inv-loop μ-loop
-loop-less c = ?
+loop-less c = search needs
 
--- src/lib.rt:111:5
 loop-again : tie.Need-loop-again Inv-loop μ-loop
-loop-again c = ?
+unfolding slotOf
+loop-again c =
+    let b = c .before .before in
+    let l = b .before .before in
+    sought-next (l .loop .inv) (b .before .loop-test .taken) (sym (c .before .is-free .ensures) ∙ c .if1 .left)
 
--- src/lib.rt:105:1
 returns-2 : tie.Need-returns-2 Inv-loop μ-loop
-returns-2 c = ?
+returns-2 c = (sought-none (c .before .loop .inv) (omega (arith, c .loop-test .left)), omega arith)
 
 pub first-free-spec : {M : Type 1} → statement M
 first-free-spec =

