@@ -138,7 +138,7 @@ module _ (P : ℕ) (t : Table) (id : ℕ) (slot : Slot) (next : SlotState) (m : 
       let e : Terminates (endpointOf t id 1) (slot .base ⊕ 32 * 1) m gone m₁ = rw is-first g in
       let one : gone .stored ≡ 1 = e .count ∙ rw d in
       let k : Ends (terminate id (slot .base) 1 (begin t)) m 0 (walk (withFirst t id (gone .endpoint)) 0 2 0) m₁ 1 =
-          rw (is-with-first, one) at (terminate-one id (slot .base) 1 (begin t) e 0) in
+      rw (is-with-first, one) at (terminate-one id (slot .base) 1 (begin t) e 0) in
       let v = rw (located-at (length m) address 64 (sym f ∙ i) .0, a) at w in
       meets-as t (there _ _ _ (f ∙ rw a) _ i ∙ need-yes _ _ _ _ h)
       (carried t (record { ends = record { ends = after (λ w. copyContexts id (P ⊕ 32) (slot .base) next (slot .entry) w) k ∙ v .ends .ends } }))

@@ -74,17 +74,17 @@ module _ (t : Table) (f : wellFormed t ≡ true) where
 
   -- ids are what the scan leaves
   enable-one : (ids : List ℕ) (id : ℕ) → id ≡ firstOf ids → (id ≡ 0 → ⊥) → enableOne t ids ≡ done (ok (
-      record { code = 1; slot = id; launched = 0; terminated = 0; port = 0; stored = 0; submit = 0; cancel = 0 },
-      withSlot t id (record { state = Enabled; base = 0; entry = t .dcbaap ⊕ 8 * id }),
-    ))
+    record { code = 1; slot = id; launched = 0; terminated = 0; port = 0; stored = 0; submit = 0; cancel = 0 },
+    withSlot t id (record { state = Enabled; base = 0; entry = t .dcbaap ⊕ 8 * id }),
+  ))
   unfolding enableOne
   enable-one [] id e n = absurd (n e)
   enable-one (j ∷ ids) id e n = rw e
 
   pub enabled : (id : ℕ) → id ≡ firstFree t → (id ≡ 0 → ⊥) → AnswersAlone enableSlot t (record {
-      table = withSlot t id (record { state = Enabled; base = 0; entry = t .dcbaap ⊕ 8 * id });
-      answer = record { code = 1; slot = id; launched = 0; terminated = 0; port = 0; stored = 0; submit = 0; cancel = 0 };
-    })
+    table = withSlot t id (record { state = Enabled; base = 0; entry = t .dcbaap ⊕ 8 * id });
+    answer = record { code = 1; slot = id; launched = 0; terminated = 0; port = 0; stored = 0; submit = 0; cancel = 0 };
+  })
   unfolding prog meaning commands.enableSlot firstFree
   enabled id e n m = meets-as t (passes-formed t refl _ f ∙ enable-one _ id e n) (meets-ok t (ends-done _ m 0))
 

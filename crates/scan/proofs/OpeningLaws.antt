@@ -134,7 +134,7 @@ module _ (t : Table) (len id : ℕ) {h : Head} (e : h ≡ headFor t len id) wher
   unfolding headFor
   head-code = ap (λ (x : Head). x .code) e
 
-  head-found : h .code ≡ 0 → lookup t id ≡ h .found
+  pub head-found : h .code ≡ 0 → lookup t id ≡ h .found
   unfolding headFor
   head-found z = sym (ap (λ (x : Head). x .found) e ∙ rw (sym head-code ∙ z))
 

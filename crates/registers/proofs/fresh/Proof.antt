@@ -6,7 +6,7 @@ use Rattle.registers.proofs.fresh.Tie as tie
 
 returns : tie.Need-returns
 unfolding freshTable
-returns c =     refl
+returns c = refl
 
 pub fresh-spec : {M : Type 1} → statement M
 fresh-spec = tie.close (tie.spec returns)

@@ -1,44 +1,34 @@
+-- `commands::device::disable_slot` meets its contract. Assumes nothing.
 use native.Mathlib.Omega.{arith}
+use borrow.Author.Needs.{needs}
 use Rattle.definition.specs.Table.{withSlot}
 use Rattle.definition.specs.Calls.{prog, meaning}
 use Rattle.definition.specs.Commands as commands
 use Rattle.commands.proofs.OutcomeLaws.{opened-slot, opened-rooms, carried, opened-settles, disabled-slot}
-use borrow.Author.Needs.{needs}
 use Rattle.commands.proofs.device.disable_slot.Statement.{statement}
 use Rattle.commands.proofs.device.disable_slot.Tie as tie
-use Rattle.commands.proofs.device.disable_slot.Reads as reads
-use Rattle.commands.proofs.device.disable_slot.Lts as lts
-use Rattle.commands.proofs.outcome.success.Reads as success-reads
-use Rattle.walks.proofs.terminate_from.Reads as terminate-from-reads
 
--- src/device.rt:29:9
 terminate-from-requires : tie.Need-terminate-from-requires
 terminate-from-requires c κs =
     let o = c .before .before .pre in
     let f = opened-slot o in
     ((f .low, f .high, omega arith, omega arith), opened-rooms o 1 (omega arith))
 
--- src/device.rt:31:14
 sub-j : tie.Need-sub-j
 sub-j c = let f = opened-slot (c .before .before .before .before .before .before .pre) in search needs
 
--- src/device.rt:32:5
 mul-t14 : tie.Need-mul-t14
 mul-t14 c = let f = opened-slot (c .before .before .before .before .before .before .pre) in search needs
 
--- src/device.rt:32:5
 element-set-from-u : tie.Need-element-set-from-u
 element-set-from-u c = let f = opened-slot (c .before .before .before .before .before .before .pre) in search needs
 
--- src/device.rt:33:5
 success-requires : tie.Need-success-requires
 success-requires c κs = search needs
 
--- src/device.rt:24:1
 same-length : tie.Need-same-length
 same-length c = search needs
 
--- src/device.rt:24:1
 returns : tie.Need-returns
 unfolding withSlot prog meaning commands.disableSlot
 returns c =

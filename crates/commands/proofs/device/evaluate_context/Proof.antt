@@ -1,32 +1,24 @@
-use mathlib.Core.Path.{_≡_, sym, _∙_}
+-- `commands::device::evaluate_context` meets its contract. Assumes nothing.
+use mathlib.Core.Path.{_∙_}
+use borrow.Author.Needs.{needs}
 use Rattle.guest.proofs.RunLaws.{run-done}
 use Rattle.definition.specs.Calls.{prog, meaning}
 use Rattle.definition.specs.Commands as commands
 use Rattle.contexts.proofs.CheckLaws.{check-goes-on, check-refuses}
 use Rattle.scan.proofs.OpeningLaws.{refuses-with, meets-ok}
 use Rattle.commands.proofs.OutcomeLaws.{opened-settles}
-use borrow.Author.Needs.{needs}
 use Rattle.commands.proofs.device.evaluate_context.Statement.{statement}
 use Rattle.commands.proofs.device.evaluate_context.Tie as tie
-use Rattle.commands.proofs.device.evaluate_context.Reads as reads
-use Rattle.commands.proofs.device.evaluate_context.Lts as lts
-use Rattle.commands.proofs.outcome.success.Reads as success-reads
-use Rattle.contexts.proofs.context_check.Reads as context-check-reads
-use Rattle.scan.proofs.refused.Reads as refused-reads
 
--- src/device.rt:49:9
 context-check-requires : tie.Need-context-check-requires
 context-check-requires c κs = search needs
 
--- src/device.rt:50:29
 enum-known-checked : tie.Need-enum-known-checked
 enum-known-checked c = search needs
 
--- src/device.rt:51:9
 refused-requires : tie.Need-refused-requires
 refused-requires c κs = search needs
 
--- src/device.rt:51:9
 returns : tie.Need-returns
 unfolding prog meaning commands.evaluateContext
 returns c =
@@ -38,11 +30,9 @@ returns c =
 enum-told : tie.Need-enum-told
 enum-told c = search needs
 
--- src/device.rt:53:5
 success-requires : tie.Need-success-requires
 success-requires c κs = search needs
 
--- src/device.rt:45:1
 returns-2 : tie.Need-returns-2
 unfolding prog meaning commands.evaluateContext
 returns-2 c =

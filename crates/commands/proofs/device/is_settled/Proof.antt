@@ -1,46 +1,35 @@
+-- `commands::device::is_settled` meets its contract. Assumes nothing.
 use borrow.Author.Needs.{needs}
 use Rattle.commands.proofs.device.is_settled.Statement.{statement}
 use Rattle.commands.proofs.device.is_settled.Tie as tie
-use Rattle.commands.proofs.device.is_settled.Reads as reads
-use Rattle.commands.proofs.device.is_settled.Lts as lts
 
--- src/device.rt:69:28
 enum-told : tie.Need-enum-told
 enum-told c = search needs
 
--- src/device.rt:70:31
 enum-told-2 : tie.Need-enum-told-2
 enum-told-2 c = search needs
 
--- src/device.rt:71:31
 enum-told-3 : tie.Need-enum-told-3
 enum-told-3 c = search needs
 
--- src/device.rt:72:33
 enum-told-4 : tie.Need-enum-told-4
 enum-told-4 c = search needs
 
--- src/device.rt:73:34
 enum-told-5 : tie.Need-enum-told-5
 enum-told-5 c = search needs
 
--- src/device.rt:65:1
 returns : tie.Need-returns
 returns c = rw (c .enum-told .given .1)
 
--- src/device.rt:65:1
 returns-2 : tie.Need-returns-2
 returns-2 c = rw (c .enum-told2 .given .1)
 
--- src/device.rt:65:1
 returns-3 : tie.Need-returns-3
 returns-3 c = rw (c .enum-told3 .given .1)
 
--- src/device.rt:65:1
 returns-4 : tie.Need-returns-4
 returns-4 c = rw (c .enum-told4 .given .1)
 
--- src/device.rt:65:1
 returns-5 : tie.Need-returns-5
 returns-5 c = rw (c .enum-told5 .given .1)
 

@@ -1,42 +1,31 @@
+-- `commands::outcome::finish` meets its contract. Assumes nothing.
+use borrow.Author.Needs.{needs}
 use Rattle.definition.specs.Table.{withSlot}
 use Rattle.commands.proofs.OutcomeLaws.{finished}
-use borrow.Author.Needs.{needs}
 use Rattle.commands.proofs.outcome.finish.Statement.{statement}
 use Rattle.commands.proofs.outcome.finish.Tie as tie
-use Rattle.commands.proofs.outcome.finish.Reads as reads
-use Rattle.commands.proofs.outcome.finish.Lts as lts
-use Rattle.commands.proofs.outcome.store_slot_state.Reads as store-slot-state-reads
-use Rattle.commands.proofs.outcome.success.Reads as success-reads
 
--- src/outcome.rt:80:5
 store-slot-state-requires : tie.Need-store-slot-state-requires
 store-slot-state-requires c κs = search needs
 
--- src/outcome.rt:82:14
 sub-j : tie.Need-sub-j
 sub-j c = search needs
 
--- src/outcome.rt:83:5
 mul-t15 : tie.Need-mul-t15
 mul-t15 c = search needs
 
--- src/outcome.rt:83:5
 element-set-from-u : tie.Need-element-set-from-u
 element-set-from-u c = search needs
 
--- src/outcome.rt:94:21
 add-t13 : tie.Need-add-t13
 add-t13 c = search needs
 
--- src/outcome.rt:88:5
 success-requires : tie.Need-success-requires
 success-requires c κs = search needs
 
--- src/outcome.rt:67:1
 same-length : tie.Need-same-length
 same-length c = search needs
 
--- src/outcome.rt:67:1
 returns : tie.Need-returns
 unfolding withSlot
 returns c =

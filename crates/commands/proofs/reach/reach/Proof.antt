@@ -1,74 +1,54 @@
-use mathlib.Core.Path.{_≡_, sym, _∙_}
+-- `commands::reach::reach` meets its contract. Assumes nothing.
+use mathlib.Core.Path.{sym, _∙_}
 use native.Mathlib.Omega.{arith}
+use borrow.Author.Needs.{needs}
 use Rattle.definition.specs.Table.{endpointOf, withEndpoint}
 use Rattle.commands.proofs.ReachLaws.{ready, reach-zero, reach-high, reach-disabled, reach-refused, reach-taken}
-use borrow.Author.Needs.{needs}
 use Rattle.commands.proofs.reach.reach.Statement.{statement}
 use Rattle.commands.proofs.reach.reach.Tie as tie
-use Rattle.commands.proofs.reach.reach.Reads as reads
-use Rattle.commands.proofs.reach.reach.Lts as lts
-use Rattle.commands.proofs.reach.bit.Reads as bit-reads
-use Rattle.endpoint.proofs.is_disabled.Reads as is-disabled-reads
-use Rattle.endpoint.proofs.step.Reads as step-reads
-use Rattle.guest.proofs.address.index.Reads as index-reads
-use Rattle.guest.proofs.address.plus.Reads as plus-reads
-use Rattle.scan.proofs.refused.Reads as refused-reads
 
--- src/reach.rt:34:9
 refused-requires : tie.Need-refused-requires
 refused-requires c κs = search needs
 
--- src/reach.rt:34:9
 returns : tie.Need-returns
 returns c =
     let p = c .before .before .before in
     let a = p .args in
     rw (c .refused .ensures) (reach-zero (a .absent) (a .t1) (a .id) (a .i) (a .input) (a .slot) (a .mem .now) (c .before .if1 .taken))
 
--- src/reach.rt:37:9
 refused-requires-2 : tie.Need-refused-requires-2
 refused-requires-2 c κs = search needs
 
--- src/reach.rt:37:9
 returns-2 : tie.Need-returns-2
 returns-2 c =
     let p = c .before .before .before .before in
     let a = p .args in
     rw (c .refused2 .ensures) (reach-high (a .absent) (a .t1) (a .id) (a .i) (a .input) (a .slot) (a .mem .now) (c .before .if2 .taken))
 
--- src/reach.rt:39:15
 sub-k : tie.Need-sub-k
 sub-k c = search needs
 
--- src/reach.rt:39:14
 mul-k : tie.Need-mul-k
 mul-k c = search needs
 
--- src/reach.rt:39:31
 sub-k-2 : tie.Need-sub-k-2
 sub-k-2 c = search needs
 
--- src/reach.rt:39:14
 add-k : tie.Need-add-k
 add-k c = search needs
 
--- src/reach.rt:40:13
 mul-e : tie.Need-mul-e
 mul-e c = search needs
 
--- src/reach.rt:40:13
 element-copy-out-e : tie.Need-element-copy-out-e
 element-copy-out-e c = search needs
 
--- src/reach.rt:41:8
 is-disabled-requires : tie.Need-is-disabled-requires
 is-disabled-requires c κs = search needs
 
--- src/reach.rt:42:9
 refused-requires-3 : tie.Need-refused-requires-3
 refused-requires-3 c κs = search needs
 
--- src/reach.rt:42:9
 returns-3 : tie.Need-returns-3
 unfolding endpointOf
 returns-3 c =
@@ -77,19 +57,15 @@ returns-3 c =
     rw (c .refused3 .ensures)
     (reach-disabled (a .absent) (a .t1) (a .id) (a .i) (a .input) (a .slot) (a .mem .now) (omega arith) (omega arith) (sym (c .before .before .is-disabled .ensures) ∙ c .before .if3 .taken))
 
--- src/reach.rt:44:68
 mul-plus : tie.Need-mul-plus
 mul-plus c = search needs
 
--- src/reach.rt:44:36
 plus-requires : tie.Need-plus-requires
 plus-requires c κs = search needs
 
--- src/reach.rt:44:9
 index-requires : tie.Need-index-requires
 index-requires c κs = search needs
 
--- src/reach.rt:45:9
 step-requires : tie.Need-step-requires
 unfolding endpointOf
 step-requires c κs =
@@ -100,15 +76,12 @@ step-requires c κs =
     rw (c .before .index .ensures, c .before .before .plus .ensures)
     (d, ready (a .t1) (a .id) (a .i) (a .slot) (a .mem .now) (q .2) (q .3) (q .0) (q .1) (q .4) (omega arith) (omega arith) d)
 
--- src/reach.rt:47:9
 refused-requires-4 : tie.Need-refused-requires-4
 refused-requires-4 c κs = search needs
 
--- src/reach.rt:47:9
 same-length : tie.Need-same-length
 same-length c = search needs
 
--- src/reach.rt:47:9
 returns-4 : tie.Need-returns-4
 unfolding endpointOf
 returns-4 c =
@@ -119,27 +92,21 @@ returns-4 c =
     rw (c .refused4 .ensures)
     (reach-refused (a .absent) (a .t1) (a .id) (a .i) (a .input) (a .slot) (a .mem .now) (omega (arith, c .before .before .before .before .before .before .before .before .before .before .before .before .before .if1 .left)) (c .before .before .before .before .before .before .before .before .before .before .before .before .if2 .left) d k (c .before .if4 .taken))
 
--- src/reach.rt:51:5
 mul-f : tie.Need-mul-f
 mul-f c = search needs
 
--- src/reach.rt:51:5
 element-set-from-f : tie.Need-element-set-from-f
 element-set-from-f c = search needs
 
--- src/reach.rt:61:21
 bit-requires : tie.Need-bit-requires
 bit-requires c κs = search needs
 
--- src/reach.rt:62:21
 bit-requires-2 : tie.Need-bit-requires-2
 bit-requires-2 c κs = search needs
 
--- src/reach.rt:21:1
 same-length-2 : tie.Need-same-length-2
 same-length-2 c = search needs
 
--- src/reach.rt:21:1
 returns-5 : tie.Need-returns-5
 unfolding endpointOf withEndpoint
 returns-5 c =
