@@ -63,7 +63,7 @@ returns-3 c =
     let l = c .before .before .before .before .before in
     let t = l .before .before .before .args .t1 in
     slots-decide t (l .before .before .if1 .left) (l .before .if2 .left)
-    (scan-fails (slotOk t) (l .loop .inv) (c .before .before .before .before .loop-test .taken)
+    (scan-fails (slotOk t) (l .loop .inv) (omega arith)
     (slot-bad t (l .loop .id) (sym (c .before .slot-ok .ensures) ∙ not-true (c .before .slot-ok .result) (c .if3 .taken))))
 
 has-contexts-requires : tie.Need-has-contexts-requires Inv-loop2 μ-loop2 Inv-loop μ-loop
@@ -115,7 +115,7 @@ returns-4 c =
     let l = o .before .before .before .before in
     let t = l .before .before .before .args .t1 in
     slots-decide t (l .before .before .if1 .left) (l .before .if2 .left)
-    (scan-fails (slotOk t) (l .loop .inv) (o .before .before .before .loop-test .taken)
+    (scan-fails (slotOk t) (l .loop .inv) (omega arith)
     (slot-is t (l .loop .id) (g .loop2 .flags) (g .loop2 .pointers) (g .before .has-contexts .ensures) (sym (o .slot-ok .ensures) ∙ not-false (o .slot-ok .result) (g .before .before .if3 .left)) (g .loop2 .inv) (c .before .loop2-test .left)
     ∙ ne-eqb _ _ (c .if4 .taken)))
 
@@ -132,7 +132,7 @@ loop-again c =
     let o = g .before .before .before in
     let l = o .before .before .before .before in
     let t = l .before .before .before .args .t1 in
-    scan-goes (slotOk t) (l .loop .inv) (o .before .before .before .loop-test .taken) true
+    scan-goes (slotOk t) (l .loop .inv) (omega arith) true
     (sym (slot-is t (l .loop .id) (g .loop2 .flags) (g .loop2 .pointers) (g .before .has-contexts .ensures) (sym (o .slot-ok .ensures) ∙ not-false (o .slot-ok .result) (g .before .before .if3 .left)) (g .loop2 .inv) (c .before .loop2-test .left)
     ∙ eq-eqb _ _ (c .if4 .left)))
 
