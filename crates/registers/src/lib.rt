@@ -112,7 +112,7 @@ fn first_free(t: Table) -> u64
         let j = (id - 1) as usize;
         let slot = t.slots[j];
         let state = slot.state;
-        if scan::records::is_free(state) {
+        if scan::is_free(state) {
             return id;
         }
         id += 1;

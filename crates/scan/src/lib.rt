@@ -1,11 +1,12 @@
 // How a call begins: whether its table is well formed, whether the lent memory is the table's, and which slot it is for.
 // Each function that takes the table indexes it itself, and hands on only single records and numbers.
-pub mod records;
+mod records;
 
 use definition::Answer;
 use definition::Lookup;
 use definition::Outcome;
 use definition::Slot;
+use definition::SlotState;
 use definition::Table;
 ghost use mathlib.Core.Path.{_≡_};
 ghost use lib.Dec.{eqb};
@@ -60,6 +61,13 @@ pub fn well_formed(t: Table) -> bool
     true
 }
 
+// A slot in this state is free.
+pub fn is_free(state: SlotState) -> bool
+    ensures { λ r. ⌜ r ≡ eqb (tables.slotNumber state) 0 ⌝ }
+{
+    records::slot_number(state) == 0
+}
+
 // The slot with this id, if it is in use.
 fn find(slots: [Slot; 16], id: u64) -> Lookup
     ensures { λ r. ⌜ r ≡ foundIn slots id ⌝ }
@@ -73,7 +81,7 @@ fn find(slots: [Slot; 16], id: u64) -> Lookup
     let j = (id - 1) as usize;
     let slot = slots[j];
     let state = slot.state;
-    if records::is_free(state) {
+    if is_free(state) {
         return Lookup::Nothing;
     }
     Lookup::Used(slot)

@@ -6,7 +6,6 @@ use definition::SlotState;
 ghost use mathlib.Core.Path.{_≡_};
 ghost use mathlib.Core.Bool.{cond};
 ghost use Prim.Native.Nat.{_≤_};
-ghost use lib.Dec.{eqb};
 ghost use Rattle.guest.specs.Bytes as bytes;
 ghost use Rattle.definition.specs.Table.{slotNumber, endpointNumber, isZero};
 ghost use Rattle.scan.specs.Records.{hasContexts, ownOk, inUse, recordOk, clear};
@@ -18,7 +17,7 @@ pub struct Faults {
 }
 
 // The slot state's number: Free is 0.
-fn slot_number(state: SlotState) -> u64
+pub fn slot_number(state: SlotState) -> u64
     ensures { λ r. ⌜ r ≡ slotNumber state ⌝ }
 {
     match state {
@@ -28,13 +27,6 @@ fn slot_number(state: SlotState) -> u64
         SlotState::Addressed => 3,
         SlotState::Configured => 4,
     }
-}
-
-// A slot in this state is free.
-pub fn is_free(state: SlotState) -> bool
-    ensures { λ r. ⌜ r ≡ eqb (slotNumber state) 0 ⌝ }
-{
-    slot_number(state) == 0
 }
 
 // A slot in this state is past Enabled, and so has contexts.

@@ -1,7 +1,7 @@
--- `scan::records::is_free` meets its contract. Assumes nothing.
+-- `scan::is_free` meets its contract. Assumes nothing.
 use borrow.Author.Needs.{needs}
-use Rattle.scan.proofs.records.is_free.Statement.{statement}
-use Rattle.scan.proofs.records.is_free.Tie as tie
+use Rattle.scan.proofs.is_free.Statement.{statement}
+use Rattle.scan.proofs.is_free.Tie as tie
 
 slot-number-requires : tie.Need-slot-number-requires
 slot-number-requires c κs = search needs
