@@ -72,7 +72,7 @@ cases =
       pointer = 3072;
       cycle = true;
     }
-    -- with byte 2116 = 0 instead: 17
+    -- with byte 2116 = 0 instead: 17, of the first call
     ∷ record {
       events = ready ++ (store 2116 0 ∷ call (addressDevice 1 2048 true) ∷ []);
       answers = enabled ++ (says 17 0 0 0 0 ∷ []);
@@ -81,6 +81,16 @@ cases =
       endpoint = 1;
       pointer = 0;
       cycle = false;
+    }
+    -- .. and so too of the second, before the state is judged
+    ∷ record {
+      events = ready ++ (call (addressDevice 1 2048 true) ∷ store 2116 0 ∷ call (addressDevice 1 2048 true) ∷ []);
+      answers = enabled ++ (says 1 0 2 0 66 ∷ says 17 0 0 0 0 ∷ []);
+      places = 1039 ∷ 1056 ∷ [];
+      held = 8 ∷ 1 ∷ [];
+      endpoint = 1;
+      pointer = 3072;
+      cycle = true;
     }
     -- again BSR=1: 19; then BSR=0: launched 2, terminated 2, stored 67, byte 1039 = 16
     ∷ record { events = addressed; answers = toAddressed; places = 1039 ∷ []; held = 16 ∷ []; endpoint = 1; pointer = 3072; cycle = true }
