@@ -8,6 +8,7 @@ use native.Mathlib.Omega.{arith}
 use lib.ListN.{length, getD}
 use Rattle.guest.specs.Prog.{Mem, Ran, run, stores}
 use Rattle.guest.specs.Trace.{Event, Course, step, course, left, Named}
+use Rattle.guest.proofs.ReadLaws.{run-length}
 use Rattle.definition.specs.declared.Table.{Table}
 use Rattle.definition.specs.declared.Answer.{Answer}
 use Rattle.definition.specs.declared.Outcome.{Outcome}
@@ -23,7 +24,7 @@ use Rattle.definition.proofs.DemandLaws as demands
 use Rattle.definition.proofs.IsolationLaws.{slotIn, Isolated, isolation}
 use Rattle.scan.specs.Heads.{refusal}
 use Rattle.commands.specs.Promises.{Answers}
-use Rattle.slot_manager.specs.Promises.{Runs, ended, called, stored, Alike}
+use Rattle.slot_manager.specs.Promises.{Ready, Runs, ended, called, stored, Alike}
 
 -- ---- one call
 
@@ -52,6 +53,15 @@ module _ (c : Call) (t : Table) (m : Mem) {r : Outcome} {m′ : Mem} (w : Answer
 
   pub not-malformed : Proper t → r .answer .code ≡ 198 → ⊥
   not-malformed p e = never-malformed c t m p (sym code-is ∙ e)
+
+  -- a table and a memory that fit each other still do: `formed` can be called again
+  pub length-kept : r .table .length ≡ t .length
+  length-kept = ap (λ (u : Table). u .length) (w .table) ∙ codes.keeps-length c t m
+
+  pub stays-ready : Proper t → t .length ≡ length m → Ready (r .table) m′
+  stays-ready p e =
+      let k : length m′ ≡ length m = ap (λ (x : Mem). length x) (w .memory) ∙ run-length (prog c (length m) t) m 0 in
+      record { formed = stays-proper p .formed; size = length-kept ∙ e ∙ sym k }
 
   -- a call for one slot touches no other
   pub keeps-apart : 1 ≤ slotIn c → Isolated (slotIn c) t (r .table) (stores (prog c (length m) t) m)

@@ -1,5 +1,5 @@
 // The calls on a slot for a caller that has proved its table well formed and of the memory's length: each promises what its namesake does, without the scan.
-// Every call keeps a table well formed (`stays-proper`). The calls on no slot stand in `registers`.
+// Every call keeps a table so (`stays-ready`). The calls on no slot stand in `registers`.
 use definition::Dequeue;
 use definition::Given;
 use definition::Input;
