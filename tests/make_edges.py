@@ -55,12 +55,12 @@ def with_numbers(**numbers):
 def memory(length=4096, base=1536, flags=0, kind=0):
     """Slot 2's DCBAA entry; flags of two input contexts; endpoint 1's type and dequeue
     word in the first of them; slot 1's root port."""
-    lent = bytearray(length)
+    lent = bytearray(4097)
     words = {272: base, 2048: flags << 32, 4032: flags << 32, 2112: kind << 35, 2120: 3073,
              1024: 5 << 48}
     for address, word in words.items():
         lent[address:address + 8] = word.to_bytes(8, "little")
-    return lent
+    return lent[:length]
 
 
 # ---- checksums
@@ -98,7 +98,7 @@ SLOT_CALLS = ("disable-slot", "address-device", "configure-endpoint", "evaluate-
 ENDPOINT_CALLS = ("stop-endpoint", "reset-endpoint", "set-dequeue", "doorbell", "host-ok",
                   "host-stall", "host-transaction-error", "host-trb-error")
 TAKES_NOTHING = "enable-slot", "reset-all", "disable-slot", "reset-device"
-TAKES_POINTER_ONLY = "evaluate-context",
+TAKES_NO_FLAG = "evaluate-context",
 LENDS_NONE = "set-limit", "set-dcbaap", "enable-slot"
 LOOKS = "doorbell", "host-ok"
 TAKES_PLACE = "set-dequeue", "host-stall", "host-transaction-error"
@@ -108,61 +108,52 @@ def rule(name):
     return getattr(reading, name.removeprefix("host-").replace("-", "_"))
 
 
-def arguments(name, numbers):
-    """The numbers that the call takes, of those that are written; a cycle is 1, and a
-    look has found a TRB."""
+def arguments(name, slot, endpoint, pointer, flag):
+    """What the call takes of the numbers that are written: a limit and DCBAAP come as the
+    id, a cycle as the flag, and a look has found a TRB."""
     if name in TABLE_CALLS:
-        return [] if name in TAKES_NOTHING else numbers
+        return [] if name in TAKES_NOTHING else [slot]
     if name in SLOT_CALLS:
-        return numbers[:1] if name in TAKES_NOTHING else numbers[:2] if name in TAKES_POINTER_ONLY else numbers
-    slot, endpoint, pointer = numbers
+        takes = 1 if name in TAKES_NOTHING else 2 if name in TAKES_NO_FLAG else 3
+        return [slot, pointer, flag][:takes]
     if name in LOOKS:
-        return [slot, endpoint, 1, pointer, 1]
-    return [slot, endpoint, pointer, 1] if name in TAKES_PLACE else [slot, endpoint]
+        return [slot, endpoint, 1, pointer, flag]
+    return [slot, endpoint, pointer, flag] if name in TAKES_PLACE else [slot, endpoint]
 
 
-def attempt(what, name, numbers, table=None, lent=None):
+def attempt(what, name, *numbers, table=None, lent=None):
+    """A call on a table and a memory of its own."""
     table = plain_table() if table is None else table.copy()
     lent = memory() if lent is None else lent
     before = table_sum(table), memory_sum(lent)
     lends = [] if name in LENDS_NONE else [lent]
-    answer = rule(name)(table, *lends, *arguments(name, list(numbers)))
+    answer = rule(name)(table, *lends, *arguments(name, *numbers))
     after = table_sum(table), memory_sum(lent)
     print(what, name, *numbers, "|", *answer, "|", *after, "same" if before == after else "changed")
 
 
-def every(what, table, lent, slot=1, endpoint=2):
-    """Every call that takes a table, one after another in the same memory."""
-    for name, number in zip(TABLE_CALLS, (1, 64, 0, 0)):
-        attempt(what, name, [number], table, lent)
-    for name in SLOT_CALLS:
-        attempt(what, name, [slot, 0 if name in TAKES_NOTHING else PLACE, 0], table, lent)
-    for name in ENDPOINT_CALLS:
-        place = PLACE if name in LOOKS or name in TAKES_PLACE else 0
-        attempt(what, name, [slot, endpoint, place], table, lent)
+def every(what, table, length=4096, slot=1, endpoint=2):
+    """Every call that takes a table."""
+    for name in TABLE_CALLS + SLOT_CALLS + ENDPOINT_CALLS:
+        attempt(what, name, slot, endpoint, PLACE, 0, table=table, lent=memory(length))
 
 
 # ---- what is tried
 
 def ids():
-    for name in "set-limit", "set-dcbaap":
+    for name in ("set-limit", "set-dcbaap") + SLOT_CALLS + ENDPOINT_CALLS:
         for number in NUMBERS:
-            attempt("number", name, [number])
-    for name in SLOT_CALLS:
-        for number in NUMBERS:
-            attempt("slot-id", name, [number, PLACE, 0])
-    for name in ENDPOINT_CALLS:
-        for number in NUMBERS:
-            if number != 1:
-                attempt("ids", name, [number, 1, PLACE])
-        attempt("ids", name, [MOST, MOST, PLACE])
-        for number in NUMBERS:
-            attempt("ids", name, [1, number, PLACE])
+            attempt("ids", name, number, 1, PLACE, 1)
+        if name in ENDPOINT_CALLS:
+            for number in NUMBERS:
+                if number != 1:
+                    attempt("ids", name, 1, number, PLACE, 1)
+            attempt("ids", name, MOST, MOST, PLACE, 1)
 
 
 def tables():
     for limit in 0, 1, 3, 4, 16, 17:
-        attempt("enable", "enable-slot", [limit], with_numbers(limit=limit))
+        attempt("enable", "enable-slot", limit, 0, 0, 0, table=with_numbers(limit=limit))
     for length in 0, 1, 4096, 2**30 - 1, 2**30, 2**30 + 1, 2**32, MOST:
         answer, table = reading.make_table(length)
         print("make-table", length, "|", *answer, "|", table_sum(table))
@@ -177,34 +168,35 @@ def inputs():
     for what, flags, kind in ("no-flags", 0, 0), ("first-flag", 2, 4), ("last-flag", 2**31, 4):
         for name, slot, flag in tried:
             for place in places:
-                attempt(what, name, [slot, place, flag], lent=memory(flags=flags, kind=kind))
+                attempt(what, name, slot, 0, place, flag, lent=memory(flags=flags, kind=kind))
     for kind in range(8):
         for name, slot in ("address-device", 2), ("configure-endpoint", 1), ("evaluate-context", 3):
-            attempt("type", name, [slot, PLACE, 0], lent=memory(flags=2, kind=kind))
+            attempt("type", name, slot, 0, PLACE, 0, lent=memory(flags=2, kind=kind))
 
 
 def bases():
     for base in 0, 4032, 4033, 4096, 2**64 - 4, 2**64 - 32, MOST:
         for flag in 0, 1:
-            attempt("base", "address-device", [2, PLACE, flag], lent=memory(base=base))
+            attempt("base", "address-device", 2, 0, PLACE, flag, lent=memory(base=base))
     for entry in 0, 4032, 4033, 4088, 4089, 4096, 2**64 - 4, 2**64 - 32, MOST:
-        attempt("entry", "address-device", [2, PLACE, 0], with_slot(2, ENABLED, 0, entry))
+        attempt("entry", "address-device", 2, 0, PLACE, 0, table=with_slot(2, ENABLED, 0, entry))
 
 
 def rings():
     for name in "set-dequeue", "doorbell", "host-ok", "host-stall", "host-transaction-error":
         for endpoint in range(1, 7):
             for place in 0, 4032, 4033, 4096, 2**64 - 16, 2**64 - 4, 2**64 - 32:
-                attempt("ring", name, [1, endpoint, place])
+                attempt("ring", name, 1, endpoint, place, 1)
 
 
 def lengths():
-    every("short", plain_table(), memory(4095))
-    every("short", plain_table(), memory(4095), 0, 0)
-    every("long", plain_table(), memory(4097))
-    every("long", plain_table(), memory(4097), MOST, MOST)
-    every("both", with_numbers(limit=17), bytearray(4095), 0, 0)
-    every("longest", with_numbers(length=2**30), bytearray(4096))
+    every("short", plain_table(), 4095)
+    every("short", plain_table(), 4095, 0, 0)
+    every("long", plain_table(), 4097)
+    every("long", plain_table(), 4097, MOST, MOST)
+    every("none", plain_table(), 0)
+    every("both", with_numbers(limit=17), 4095, 0, 0)
+    every("longest", with_numbers(length=2**30))
 
 
 MALFORMED = {
@@ -248,7 +240,7 @@ def main():
     rings()
     lengths()
     for what, table in MALFORMED.items():
-        every(what, table, memory())
+        every(what, table)
 
 
 main()

@@ -1,4 +1,5 @@
-// One call, tried and written down. Each works on a table of its own; the memory is lent, or of 4096 bytes.
+// One call, tried and written down. Each is given a table, and a memory that it makes and fills.
+use crate::calls::Call;
 use crate::calls::EndpointCall;
 use crate::calls::SlotCall;
 use crate::calls::TableCall;
@@ -12,112 +13,106 @@ pub const PLAIN: Guest = Guest {
     kind: 0,
 };
 
-pub fn table_call_in(what: &[u8], t: Table, mem: &mut [u8], c: TableCall, n: u64) {
+fn run(what: &[u8], t: Table, mem: &mut [u8], c: Call, id: u64, i: u64, pointer: u64, flag: bool) {
     let before = crate::sums::of(t, mem);
-    let r = crate::calls::on_table(c, t, mem, n);
+    let r = crate::calls::make(c, t, mem, id, i, pointer, flag);
     crate::show::text(what);
-    crate::show::table_call(c);
-    crate::show::number(n);
-    crate::show::outcome(before, r, mem);
-}
-
-pub fn slot_call_in(
-    what: &[u8],
-    t: Table,
-    mem: &mut [u8],
-    c: SlotCall,
-    id: u64,
-    pointer: u64,
-    flag: bool,
-) {
-    let before = crate::sums::of(t, mem);
-    let r = crate::calls::on_slot(c, t, mem, id, pointer, flag);
-    crate::show::text(what);
-    crate::show::slot_call(c);
+    crate::show::call(c);
     crate::show::number(id);
+    crate::show::number(i);
     crate::show::number(pointer);
     crate::show::flag(flag);
     crate::show::outcome(before, r, mem);
 }
 
-pub fn endpoint_call_in(
+// A call that is lent this many bytes, at most 4097.
+pub fn call(
     what: &[u8],
     t: Table,
-    mem: &mut [u8],
-    c: EndpointCall,
+    g: Guest,
+    n: usize,
+    c: Call,
     id: u64,
     i: u64,
     pointer: u64,
+    flag: bool,
 ) {
-    let before = crate::sums::of(t, mem);
-    let r = crate::calls::on_endpoint(c, t, mem, id, i, pointer, true);
-    crate::show::text(what);
-    crate::show::endpoint_call(c);
-    crate::show::number(id);
-    crate::show::number(i);
-    crate::show::number(pointer);
-    crate::show::outcome(before, r, mem);
+    let mut mem = [0u8; 4097];
+    if n <= 4097 {
+        crate::setting::fill(&mut mem, g);
+        run(what, t, &mut mem[0..n], c, id, i, pointer, flag);
+    }
 }
 
-pub fn table_call(what: &[u8], t: Table, c: TableCall, n: u64) {
-    let mut mem = [0u8; 4096];
-    crate::setting::fill(&mut mem, PLAIN);
-    table_call_in(what, t, &mut mem, c, n);
-}
-
-pub fn slot_call(what: &[u8], t: Table, g: Guest, c: SlotCall, id: u64, pointer: u64, flag: bool) {
-    let mut mem = [0u8; 4096];
-    crate::setting::fill(&mut mem, g);
-    slot_call_in(what, t, &mut mem, c, id, pointer, flag);
-}
-
-pub fn endpoint_call(what: &[u8], t: Table, c: EndpointCall, id: u64, i: u64, pointer: u64) {
-    let mut mem = [0u8; 4096];
-    crate::setting::fill(&mut mem, PLAIN);
-    endpoint_call_in(what, t, &mut mem, c, id, i, pointer);
-}
-
-fn table_calls(what: &[u8], t: Table, mem: &mut [u8]) {
-    table_call_in(what, t, mem, TableCall::SetLimit, 1);
-    table_call_in(what, t, mem, TableCall::SetDcbaap, 64);
-    table_call_in(what, t, mem, TableCall::EnableSlot, 0);
-    table_call_in(what, t, mem, TableCall::ResetAll, 0);
-}
-
-fn slot_calls(what: &[u8], t: Table, mem: &mut [u8], id: u64) {
-    slot_call_in(what, t, mem, SlotCall::DisableSlot, id, 0, false);
-    slot_call_in(what, t, mem, SlotCall::AddressDevice, id, 2048, false);
-    slot_call_in(what, t, mem, SlotCall::ConfigureEndpoint, id, 2048, false);
-    slot_call_in(what, t, mem, SlotCall::EvaluateContext, id, 2048, false);
-    slot_call_in(what, t, mem, SlotCall::ResetDevice, id, 0, false);
-}
-
-fn commands(what: &[u8], t: Table, mem: &mut [u8], id: u64, i: u64) {
-    endpoint_call_in(what, t, mem, EndpointCall::StopEndpoint, id, i, 0);
-    endpoint_call_in(what, t, mem, EndpointCall::ResetEndpoint, id, i, 0);
-    endpoint_call_in(what, t, mem, EndpointCall::SetDequeue, id, i, 2048);
-    endpoint_call_in(what, t, mem, EndpointCall::Doorbell, id, i, 2048);
-}
-
-fn host_events(what: &[u8], t: Table, mem: &mut [u8], id: u64, i: u64) {
-    endpoint_call_in(what, t, mem, EndpointCall::HostOk, id, i, 2048);
-    endpoint_call_in(what, t, mem, EndpointCall::HostStall, id, i, 2048);
-    endpoint_call_in(
+// A call on the well formed table and its own memory.
+pub fn plain(what: &[u8], c: Call, id: u64, i: u64, pointer: u64) {
+    call(
         what,
-        t,
-        mem,
-        EndpointCall::HostTransactionError,
+        crate::setting::table(),
+        PLAIN,
+        4096,
+        c,
         id,
         i,
-        2048,
+        pointer,
+        true,
     );
-    endpoint_call_in(what, t, mem, EndpointCall::HostTrbError, id, i, 0);
 }
 
-// Every call that takes a table, one after another in the same memory.
-pub fn every(what: &[u8], t: Table, mem: &mut [u8], id: u64, i: u64) {
-    table_calls(what, t, mem);
-    slot_calls(what, t, mem, id);
-    commands(what, t, mem, id, i);
-    host_events(what, t, mem, id, i);
+// One of the calls in `every`, which all bring the same pointer.
+fn one(what: &[u8], t: Table, n: usize, c: Call, id: u64, i: u64) {
+    call(what, t, PLAIN, n, c, id, i, 2048, false);
+}
+
+fn commands(what: &[u8], t: Table, n: usize, id: u64, i: u64) {
+    one(what, t, n, Call::Table(TableCall::SetLimit), id, i);
+    one(what, t, n, Call::Table(TableCall::SetDcbaap), id, i);
+    one(what, t, n, Call::Table(TableCall::EnableSlot), id, i);
+    one(what, t, n, Call::Table(TableCall::ResetAll), id, i);
+    one(what, t, n, Call::Slot(SlotCall::DisableSlot), id, i);
+    one(what, t, n, Call::Slot(SlotCall::AddressDevice), id, i);
+    one(what, t, n, Call::Slot(SlotCall::ConfigureEndpoint), id, i);
+    one(what, t, n, Call::Slot(SlotCall::EvaluateContext), id, i);
+    one(what, t, n, Call::Slot(SlotCall::ResetDevice), id, i);
+}
+
+// Every call that takes a table.
+pub fn every(what: &[u8], t: Table, n: usize, id: u64, i: u64) {
+    commands(what, t, n, id, i);
+    one(
+        what,
+        t,
+        n,
+        Call::Endpoint(EndpointCall::StopEndpoint),
+        id,
+        i,
+    );
+    one(
+        what,
+        t,
+        n,
+        Call::Endpoint(EndpointCall::ResetEndpoint),
+        id,
+        i,
+    );
+    one(what, t, n, Call::Endpoint(EndpointCall::SetDequeue), id, i);
+    one(what, t, n, Call::Endpoint(EndpointCall::Doorbell), id, i);
+    one(what, t, n, Call::Endpoint(EndpointCall::HostOk), id, i);
+    one(what, t, n, Call::Endpoint(EndpointCall::HostStall), id, i);
+    one(
+        what,
+        t,
+        n,
+        Call::Endpoint(EndpointCall::HostTransactionError),
+        id,
+        i,
+    );
+    one(
+        what,
+        t,
+        n,
+        Call::Endpoint(EndpointCall::HostTrbError),
+        id,
+        i,
+    );
 }

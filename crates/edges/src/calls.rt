@@ -5,6 +5,13 @@ use definition::Look;
 use definition::Outcome;
 use definition::Table;
 
+// Any of them. What a call takes of an id, an endpoint's number, a pointer and a flag is its own affair: a limit and DCBAAP come as the id.
+pub enum Call {
+    Table(TableCall),
+    Slot(SlotCall),
+    Endpoint(EndpointCall),
+}
+
 pub enum TableCall {
     SetLimit,
     SetDcbaap,
@@ -31,7 +38,7 @@ pub enum EndpointCall {
     HostTrbError,
 }
 
-pub fn on_table(c: TableCall, t: Table, mem: &mut [u8], n: u64) -> Outcome {
+fn on_table(c: TableCall, t: Table, mem: &mut [u8], n: u64) -> Outcome {
     match c {
         TableCall::SetLimit => slot_manager::set_limit(t, n),
         TableCall::SetDcbaap => slot_manager::set_dcbaap(t, n),
@@ -40,14 +47,7 @@ pub fn on_table(c: TableCall, t: Table, mem: &mut [u8], n: u64) -> Outcome {
     }
 }
 
-pub fn on_slot(
-    c: SlotCall,
-    t: Table,
-    mem: &mut [u8],
-    id: u64,
-    pointer: u64,
-    flag: bool,
-) -> Outcome {
+fn on_slot(c: SlotCall, t: Table, mem: &mut [u8], id: u64, pointer: u64, flag: bool) -> Outcome {
     match c {
         SlotCall::DisableSlot => slot_manager::disable_slot(t, mem, id),
         SlotCall::AddressDevice => slot_manager::address_device(t, mem, id, pointer, flag),
@@ -58,7 +58,7 @@ pub fn on_slot(
 }
 
 // A look reports that it has found a TRB; a host event gives a place.
-pub fn on_endpoint(
+fn on_endpoint(
     c: EndpointCall,
     t: Table,
     mem: &mut [u8],
@@ -88,5 +88,21 @@ pub fn on_endpoint(
             Given::At(place),
         ),
         EndpointCall::HostTrbError => slot_manager::host_trb_error(t, mem, id, i),
+    }
+}
+
+pub fn make(
+    c: Call,
+    t: Table,
+    mem: &mut [u8],
+    id: u64,
+    i: u64,
+    pointer: u64,
+    flag: bool,
+) -> Outcome {
+    match c {
+        Call::Table(k) => on_table(k, t, mem, id),
+        Call::Slot(k) => on_slot(k, t, mem, id, pointer, flag),
+        Call::Endpoint(k) => on_endpoint(k, t, mem, id, i, pointer, flag),
     }
 }

@@ -10,6 +10,7 @@ mod setting;
 mod show;
 mod sums;
 
+use calls::Call;
 use calls::EndpointCall;
 use calls::SlotCall;
 use calls::TableCall;
@@ -18,62 +19,14 @@ const MOST: u64 = 0xffff_ffff_ffff_ffff;
 
 // ---- ids and limits
 
-fn numbers(c: TableCall) {
-    let t = setting::table();
-    attempt::table_call(b"number", t, c, 0);
-    attempt::table_call(b"number", t, c, 1);
-    attempt::table_call(b"number", t, c, 16);
-    attempt::table_call(b"number", t, c, 17);
-    attempt::table_call(b"number", t, c, 31);
-    attempt::table_call(b"number", t, c, 32);
-    attempt::table_call(b"number", t, c, 255);
-    attempt::table_call(b"number", t, c, 0x1_0000_0000);
-    attempt::table_call(b"number", t, c, MOST);
+fn ids(c: Call, id: u64, i: u64) {
+    attempt::plain(b"ids", c, id, i, 2048);
 }
 
-fn slot_id(c: SlotCall, id: u64) {
-    attempt::slot_call(
-        b"slot-id",
-        setting::table(),
-        attempt::PLAIN,
-        c,
-        id,
-        2048,
-        false,
-    );
-}
-
-fn slot_ids(c: SlotCall) {
-    slot_id(c, 0);
-    slot_id(c, 1);
-    slot_id(c, 16);
-    slot_id(c, 17);
-    slot_id(c, 31);
-    slot_id(c, 32);
-    slot_id(c, 255);
-    slot_id(c, 0x1_0000_0000);
-    slot_id(c, MOST);
-}
-
-fn ids(c: EndpointCall, id: u64, i: u64) {
-    attempt::endpoint_call(b"ids", setting::table(), c, id, i, 2048);
-}
-
-// Slot ids with endpoint 1, then endpoint ids in slot 1.
-fn endpoint_ids(c: EndpointCall) {
-    ids(c, 1, 0);
-    ids(c, 1, 1);
-    ids(c, 1, 16);
-    ids(c, 1, 17);
-    ids(c, 1, 31);
-    ids(c, 1, 32);
-    ids(c, 1, 255);
-    ids(c, 1, 0x1_0000_0000);
-    ids(c, 1, MOST);
-}
-
-fn slots_reached(c: EndpointCall) {
+// Slot ids, or limits, or values of DCBAAP.
+fn first(c: Call) {
     ids(c, 0, 1);
+    ids(c, 1, 1);
     ids(c, 16, 1);
     ids(c, 17, 1);
     ids(c, 31, 1);
@@ -81,35 +34,59 @@ fn slots_reached(c: EndpointCall) {
     ids(c, 255, 1);
     ids(c, 0x1_0000_0000, 1);
     ids(c, MOST, 1);
+}
+
+// Endpoint ids in slot 1, and both ids wrong.
+fn second(c: Call) {
+    ids(c, 1, 0);
+    ids(c, 1, 16);
+    ids(c, 1, 17);
+    ids(c, 1, 31);
+    ids(c, 1, 32);
+    ids(c, 1, 255);
+    ids(c, 1, 0x1_0000_0000);
+    ids(c, 1, MOST);
     ids(c, MOST, MOST);
 }
 
-fn reached(c: EndpointCall) {
-    slots_reached(c);
-    endpoint_ids(c);
+fn both(k: EndpointCall) {
+    first(Call::Endpoint(k));
+    second(Call::Endpoint(k));
 }
 
 fn every_id() {
-    slot_ids(SlotCall::DisableSlot);
-    slot_ids(SlotCall::AddressDevice);
-    slot_ids(SlotCall::ConfigureEndpoint);
-    slot_ids(SlotCall::EvaluateContext);
-    slot_ids(SlotCall::ResetDevice);
-    reached(EndpointCall::StopEndpoint);
-    reached(EndpointCall::ResetEndpoint);
-    reached(EndpointCall::SetDequeue);
-    reached(EndpointCall::Doorbell);
-    reached(EndpointCall::HostOk);
-    reached(EndpointCall::HostStall);
-    reached(EndpointCall::HostTransactionError);
-    reached(EndpointCall::HostTrbError);
+    first(Call::Table(TableCall::SetLimit));
+    first(Call::Table(TableCall::SetDcbaap));
+    first(Call::Slot(SlotCall::DisableSlot));
+    first(Call::Slot(SlotCall::AddressDevice));
+    first(Call::Slot(SlotCall::ConfigureEndpoint));
+    first(Call::Slot(SlotCall::EvaluateContext));
+    first(Call::Slot(SlotCall::ResetDevice));
+    both(EndpointCall::StopEndpoint);
+    both(EndpointCall::ResetEndpoint);
+    both(EndpointCall::SetDequeue);
+    both(EndpointCall::Doorbell);
+    both(EndpointCall::HostOk);
+    both(EndpointCall::HostStall);
+    both(EndpointCall::HostTransactionError);
+    both(EndpointCall::HostTrbError);
 }
 
 // ---- Enable Slot
 
 fn enable(limit: u64) {
     let t = setting::with_limit(setting::table(), limit);
-    attempt::table_call(b"enable", t, TableCall::EnableSlot, limit);
+    attempt::call(
+        b"enable",
+        t,
+        attempt::PLAIN,
+        4096,
+        Call::Table(TableCall::EnableSlot),
+        limit,
+        0,
+        0,
+        false,
+    );
 }
 
 fn enables() {
@@ -143,44 +120,19 @@ fn makes() {
 
 // ---- lengths of memory
 
-fn short(id: u64, i: u64) {
-    let mut mem = [0u8; 4095];
-    setting::fill(&mut mem, attempt::PLAIN);
-    attempt::every(b"short", setting::table(), &mut mem, id, i);
-}
-
-fn long(id: u64, i: u64) {
-    let mut mem = [0u8; 4097];
-    setting::fill(&mut mem, attempt::PLAIN);
-    attempt::every(b"long", setting::table(), &mut mem, id, i);
-}
-
-// Malformed, and lent another length: 198 comes first.
-fn both() {
-    let mut mem = [0u8; 4095];
-    let t = setting::with_limit(setting::table(), 17);
-    attempt::every(b"both", t, &mut mem, 0, 0);
-}
-
-// A length that is in range, and not the memory's.
-fn longest() {
-    let mut mem = [0u8; 4096];
-    let t = setting::with_length(setting::table(), 1073741824);
-    attempt::every(b"longest", t, &mut mem, 1, 2);
-}
-
+// A byte short, a byte long, and none; then a malformed table too, for which 198 comes first; then a length in range that is not the memory's.
 fn lengths() {
-    short(1, 2);
-    short(0, 0);
-    long(1, 2);
-    long(MOST, MOST);
-    both();
-    longest();
+    let t = setting::table();
+    attempt::every(b"short", t, 4095, 1, 2);
+    attempt::every(b"short", t, 4095, 0, 0);
+    attempt::every(b"long", t, 4097, 1, 2);
+    attempt::every(b"long", t, 4097, MOST, MOST);
+    attempt::every(b"none", t, 0, 1, 2);
+    attempt::every(b"both", setting::with_limit(t, 17), 4095, 0, 0);
+    attempt::every(b"longest", setting::with_length(t, 1073741824), 4096, 1, 2);
 }
 
 fn main() {
-    numbers(TableCall::SetLimit);
-    numbers(TableCall::SetDcbaap);
     every_id();
     enables();
     makes();

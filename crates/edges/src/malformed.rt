@@ -5,9 +5,7 @@ use definition::SlotState;
 use definition::Table;
 
 fn table(what: &[u8], t: Table) {
-    let mut mem = [0u8; 4096];
-    setting::fill(&mut mem, crate::attempt::PLAIN);
-    crate::attempt::every(what, t, &mut mem, 1, 2);
+    crate::attempt::every(what, t, 4096, 1, 2);
 }
 
 fn slot(what: &[u8], at: usize, state: SlotState, base: u64, entry: u64) {

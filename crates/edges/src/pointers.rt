@@ -1,5 +1,6 @@
 // Pointers at the edges of memory: of an input context, a DCBAA entry, a device context, a transfer ring.
 use crate::attempt;
+use crate::calls::Call;
 use crate::calls::EndpointCall;
 use crate::calls::SlotCall;
 use crate::setting;
@@ -9,7 +10,17 @@ use definition::SlotState;
 // ---- input contexts
 
 fn input(what: &[u8], g: Guest, c: SlotCall, id: u64, pointer: u64, flag: bool) {
-    attempt::slot_call(what, setting::table(), g, c, id, pointer, flag);
+    attempt::call(
+        what,
+        setting::table(),
+        g,
+        4096,
+        Call::Slot(c),
+        id,
+        0,
+        pointer,
+        flag,
+    );
 }
 
 fn at(what: &[u8], g: Guest, c: SlotCall, id: u64, flag: bool) {
@@ -91,12 +102,14 @@ fn base(n: u64) {
 
 fn entry(n: u64) {
     let t = setting::with_slot(setting::table(), 1, SlotState::Enabled, 0, n);
-    attempt::slot_call(
+    attempt::call(
         b"entry",
         t,
         attempt::PLAIN,
-        SlotCall::AddressDevice,
+        4096,
+        Call::Slot(SlotCall::AddressDevice),
         2,
+        0,
         2048,
         false,
     );
@@ -128,7 +141,7 @@ pub fn bases() {
 // ---- transfer rings
 
 fn ring(c: EndpointCall, i: u64, pointer: u64) {
-    attempt::endpoint_call(b"ring", setting::table(), c, 1, i, pointer);
+    attempt::plain(b"ring", Call::Endpoint(c), 1, i, pointer);
 }
 
 fn places(c: EndpointCall, i: u64) {

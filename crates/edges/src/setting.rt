@@ -76,33 +76,25 @@ fn empty() -> Table {
     }
 }
 
-// Slot 1 is Configured, 2 Enabled, 3 Default, and 16, above the limit, is Addressed: its contexts end where memory does.
+// Slot 1 is Configured, 2 Enabled, 3 Default, and 16, above the limit, is Addressed: its contexts end where memory does. In the last two endpoint 1 waits.
 fn slots() -> Table {
     let t = with_slot(empty(), 0, SlotState::Configured, 1024, 264);
     let u = with_slot(t, 1, SlotState::Enabled, 0, 272);
     let v = with_slot(u, 2, SlotState::Default, 2560, 280);
-    with_slot(v, 15, SlotState::Addressed, 4032, 384)
-}
-
-// Endpoint 1 of slots 3 and 16 waits.
-fn firsts() -> Table {
-    let t = with_endpoint(slots(), 62, EndpointState::Waiting, false, 3184);
-    with_endpoint(t, 465, EndpointState::Waiting, true, 3200)
-}
-
-// Endpoints 1 to 3 of slot 1.
-fn three() -> Table {
-    let t = with_endpoint(firsts(), 0, EndpointState::Waiting, true, 3072);
-    let u = with_endpoint(t, 1, EndpointState::InFlight, false, 3088);
-    with_endpoint(u, 2, EndpointState::Halted, true, 3104)
+    let w = with_slot(v, 15, SlotState::Addressed, 4032, 384);
+    let x = with_endpoint(w, 62, EndpointState::Waiting, false, 3184);
+    with_endpoint(x, 465, EndpointState::Waiting, true, 3200)
 }
 
 // Well formed, for 4096 bytes. Endpoints 1 to 6 of slot 1 are in the six resting states, and endpoint 31 waits.
 pub fn table() -> Table {
-    let t = with_endpoint(three(), 3, EndpointState::Error, false, 3120);
-    let u = with_endpoint(t, 4, EndpointState::StoppedContinuable, true, 3136);
-    let v = with_endpoint(u, 5, EndpointState::Stopped, false, 3152);
-    with_endpoint(v, 30, EndpointState::Waiting, true, 3168)
+    let t = with_endpoint(slots(), 0, EndpointState::Waiting, true, 3072);
+    let u = with_endpoint(t, 1, EndpointState::InFlight, false, 3088);
+    let v = with_endpoint(u, 2, EndpointState::Halted, true, 3104);
+    let w = with_endpoint(v, 3, EndpointState::Error, false, 3120);
+    let x = with_endpoint(w, 4, EndpointState::StoppedContinuable, true, 3136);
+    let y = with_endpoint(x, 5, EndpointState::Stopped, false, 3152);
+    with_endpoint(y, 30, EndpointState::Waiting, true, 3168)
 }
 
 // 8 bytes at an address plus 8, where memory goes on for 24 bytes after it.

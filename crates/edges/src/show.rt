@@ -1,4 +1,5 @@
 // What is written: the call with its numbers, the answer's eight numbers, and the checksums after the call.
+use crate::calls::Call;
 use crate::calls::EndpointCall;
 use crate::calls::SlotCall;
 use crate::calls::TableCall;
@@ -24,7 +25,7 @@ pub fn flag(b: bool) {
     }
 }
 
-pub fn table_call(c: TableCall) {
+fn table_call(c: TableCall) {
     match c {
         TableCall::SetLimit => text(b" set-limit"),
         TableCall::SetDcbaap => text(b" set-dcbaap"),
@@ -33,7 +34,7 @@ pub fn table_call(c: TableCall) {
     }
 }
 
-pub fn slot_call(c: SlotCall) {
+fn slot_call(c: SlotCall) {
     match c {
         SlotCall::DisableSlot => text(b" disable-slot"),
         SlotCall::AddressDevice => text(b" address-device"),
@@ -43,7 +44,7 @@ pub fn slot_call(c: SlotCall) {
     }
 }
 
-pub fn endpoint_call(c: EndpointCall) {
+fn endpoint_call(c: EndpointCall) {
     match c {
         EndpointCall::StopEndpoint => text(b" stop-endpoint"),
         EndpointCall::ResetEndpoint => text(b" reset-endpoint"),
@@ -53,6 +54,14 @@ pub fn endpoint_call(c: EndpointCall) {
         EndpointCall::HostStall => text(b" host-stall"),
         EndpointCall::HostTransactionError => text(b" host-transaction-error"),
         EndpointCall::HostTrbError => text(b" host-trb-error"),
+    }
+}
+
+pub fn call(c: Call) {
+    match c {
+        Call::Table(k) => table_call(k),
+        Call::Slot(k) => slot_call(k),
+        Call::Endpoint(k) => endpoint_call(k),
     }
 }
 
@@ -93,10 +102,11 @@ pub fn outcome(before: Sums, r: Outcome, mem: &[u8]) {
 pub fn made(r: Outcome) {
     let t = r.table;
     let a = r.answer;
-    let nothing = [0u8; 1];
-    let s = crate::sums::of(t, &nothing);
     answer(a);
     text(b" |");
-    number(s.table);
-    text(b"\n");
+    number(crate::sums::table(t));
+    text(
+        b"
+",
+    );
 }

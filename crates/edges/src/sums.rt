@@ -83,7 +83,7 @@ fn endpoints(sum: u64, t: Table) -> u64 {
     n
 }
 
-fn table(t: Table) -> u64 {
+pub fn table(t: Table) -> u64 {
     let n = whole(whole(whole(0, t.limit), t.length), t.dcbaap);
     endpoints(slots(n, t), t)
 }
