@@ -72,35 +72,46 @@ fn life(mem: &mut [u8], stage: u64) -> Table {
 
 // ---- the calls
 
-#[no_mangle]
-pub extern "C" fn bench_enable(mem: &mut [u8], n: u64, stage: u64, zero: u64) -> u64 {
-    let start = life(mem, stage);
-    let mut turn: u64 = 0;
-    let mut a: u64 = 0;
-    while turn < n {
-        let mut t = start;
-        t.dcbaap = a & zero;
-        let o = slot_manager::enable_slot(t);
-        let b = o.answer;
-        a = guest::address::plus(a, b.code);
-        turn += 1;
+// The sum, once the last table is found well formed: the whole of it is read, so each turn must write it.
+fn summed(kept: Table, a: u64) -> u64 {
+    if !scan::well_formed(kept) {
+        return 0;
     }
     a
 }
 
 #[no_mangle]
-pub extern "C" fn bench_disable(mem: &mut [u8], n: u64, stage: u64, id: u64, zero: u64) -> u64 {
-    let start = life(mem, stage);
+pub extern "C" fn bench_enable(mem: &mut [u8], n: u64, stage: u64, zero: u64) -> u64 {
+    let mut start = life(mem, stage);
+    let mut kept = start;
     let mut turn: u64 = 0;
     let mut a: u64 = 0;
     while turn < n {
+        turn += 1;
+        start.dcbaap = a & zero;
+        let o = slot_manager::enable_slot(start);
+        let b = o.answer;
+        kept = o.table;
+        a = guest::address::plus(a, b.code);
+    }
+    summed(kept, a)
+}
+
+#[no_mangle]
+pub extern "C" fn bench_disable(mem: &mut [u8], n: u64, stage: u64, id: u64, zero: u64) -> u64 {
+    let start = life(mem, stage);
+    let mut kept = start;
+    let mut turn: u64 = 0;
+    let mut a: u64 = 0;
+    while turn < n {
+        turn += 1;
         let slot = guest::address::plus(id, a & zero);
         let o = slot_manager::disable_slot(start, mem, slot);
         let b = o.answer;
+        kept = o.table;
         a = guest::address::plus(a, b.code);
-        turn += 1;
     }
-    a
+    summed(kept, a)
 }
 
 #[no_mangle]
@@ -113,16 +124,18 @@ pub extern "C" fn bench_address(
     zero: u64,
 ) -> u64 {
     let start = life(mem, stage);
+    let mut kept = start;
     let mut turn: u64 = 0;
     let mut a: u64 = 0;
     while turn < n {
+        turn += 1;
         let at = guest::address::plus(pointer, a & zero);
         let o = slot_manager::address_device(start, mem, 1, at, bsr != 0);
         let b = o.answer;
+        kept = o.table;
         a = guest::address::plus(a, b.code);
-        turn += 1;
     }
-    a
+    summed(kept, a)
 }
 
 #[no_mangle]
@@ -135,16 +148,18 @@ pub extern "C" fn bench_configure(
     zero: u64,
 ) -> u64 {
     let start = life(mem, stage);
+    let mut kept = start;
     let mut turn: u64 = 0;
     let mut a: u64 = 0;
     while turn < n {
+        turn += 1;
         let at = guest::address::plus(pointer, a & zero);
         let o = slot_manager::configure_endpoint(start, mem, 1, at, dc != 0);
         let b = o.answer;
+        kept = o.table;
         a = guest::address::plus(a, b.code);
-        turn += 1;
     }
-    a
+    summed(kept, a)
 }
 
 #[no_mangle]
@@ -156,31 +171,35 @@ pub extern "C" fn bench_evaluate(
     zero: u64,
 ) -> u64 {
     let start = life(mem, stage);
+    let mut kept = start;
     let mut turn: u64 = 0;
     let mut a: u64 = 0;
     while turn < n {
+        turn += 1;
         let at = guest::address::plus(pointer, a & zero);
         let o = slot_manager::evaluate_context(start, mem, 1, at);
         let b = o.answer;
+        kept = o.table;
         a = guest::address::plus(a, b.code);
-        turn += 1;
     }
-    a
+    summed(kept, a)
 }
 
 #[no_mangle]
 pub extern "C" fn bench_reset(mem: &mut [u8], n: u64, stage: u64, id: u64, zero: u64) -> u64 {
     let start = life(mem, stage);
+    let mut kept = start;
     let mut turn: u64 = 0;
     let mut a: u64 = 0;
     while turn < n {
+        turn += 1;
         let slot = guest::address::plus(id, a & zero);
         let o = slot_manager::reset_device(start, mem, slot);
         let b = o.answer;
+        kept = o.table;
         a = guest::address::plus(a, b.code);
-        turn += 1;
     }
-    a
+    summed(kept, a)
 }
 
 #[no_mangle]
@@ -193,16 +212,18 @@ pub extern "C" fn bench_stop(
     zero: u64,
 ) -> u64 {
     let start = life(mem, stage);
+    let mut kept = start;
     let mut turn: u64 = 0;
     let mut a: u64 = 0;
     while turn < n {
+        turn += 1;
         let slot = guest::address::plus(id, a & zero);
         let o = slot_manager::stop_endpoint(start, mem, slot, i);
         let b = o.answer;
+        kept = o.table;
         a = guest::address::plus(a, b.code);
-        turn += 1;
     }
-    a
+    summed(kept, a)
 }
 
 #[no_mangle]
@@ -215,9 +236,11 @@ pub extern "C" fn bench_set_dequeue(
     zero: u64,
 ) -> u64 {
     let start = life(mem, stage);
+    let mut kept = start;
     let mut turn: u64 = 0;
     let mut a: u64 = 0;
     while turn < n {
+        turn += 1;
         let slot = guest::address::plus(id, a & zero);
         let place = Dequeue {
             pointer: 12288,
@@ -225,10 +248,10 @@ pub extern "C" fn bench_set_dequeue(
         };
         let o = slot_manager::set_dequeue(start, mem, slot, i, place);
         let b = o.answer;
+        kept = o.table;
         a = guest::address::plus(a, b.code);
-        turn += 1;
     }
-    a
+    summed(kept, a)
 }
 
 #[no_mangle]
@@ -241,9 +264,11 @@ pub extern "C" fn bench_doorbell(
     zero: u64,
 ) -> u64 {
     let start = life(mem, stage);
+    let mut kept = start;
     let mut turn: u64 = 0;
     let mut a: u64 = 0;
     while turn < n {
+        turn += 1;
         let slot = guest::address::plus(id, a & zero);
         let look = Look {
             found: false,
@@ -252,10 +277,10 @@ pub extern "C" fn bench_doorbell(
         };
         let o = slot_manager::doorbell(start, mem, slot, i, look);
         let b = o.answer;
+        kept = o.table;
         a = guest::address::plus(a, b.code);
-        turn += 1;
     }
-    a
+    summed(kept, a)
 }
 
 #[no_mangle]
@@ -268,6 +293,7 @@ pub extern "C" fn bench_doorbell_stop(
     zero: u64,
 ) -> u64 {
     let start = life(mem, stage);
+    let mut kept = start;
     let mut turn: u64 = 0;
     let mut a: u64 = 0;
     while turn < n {
@@ -282,9 +308,10 @@ pub extern "C" fn bench_doorbell_stop(
         let u = o.table;
         let p = slot_manager::stop_endpoint(u, mem, slot, i);
         let b = p.answer;
+        kept = p.table;
         a = guest::address::plus(a, b.code);
     }
-    a
+    summed(kept, a)
 }
 
 // ---- the same without the scan: the start is found well formed once
@@ -292,15 +319,17 @@ pub extern "C" fn bench_doorbell_stop(
 fn enable_turns(start: Table, mem: &mut [u8], n: u64, zero: u64) -> u64
     requires { ⌜ Ready start (now mem) ⌝ }
 {
+    let mut kept = start;
     let mut turn: u64 = 0;
     let mut a: u64 = 0;
     while turn < n {
+        turn += 1;
         let o = registers::enable_slot(start);
         let b = o.answer;
+        kept = o.table;
         a = guest::address::plus(a, b.code);
-        turn += 1;
     }
-    a
+    summed(kept, a)
 }
 
 #[no_mangle]
@@ -316,16 +345,18 @@ pub extern "C" fn bench_enable_formed(mem: &mut [u8], n: u64, stage: u64, zero: 
 fn evaluate_turns(start: Table, mem: &mut [u8], n: u64, pointer: u64, zero: u64) -> u64
     requires { ⌜ Ready start (now mem) ⌝ }
 {
+    let mut kept = start;
     let mut turn: u64 = 0;
     let mut a: u64 = 0;
     while turn < n {
+        turn += 1;
         let at = guest::address::plus(pointer, a & zero);
         let o = slot_manager::formed::evaluate_context(start, mem, 1, at);
         let b = o.answer;
+        kept = o.table;
         a = guest::address::plus(a, b.code);
-        turn += 1;
     }
-    a
+    summed(kept, a)
 }
 
 #[no_mangle]
@@ -347,16 +378,18 @@ pub extern "C" fn bench_evaluate_formed(
 fn stop_turns(start: Table, mem: &mut [u8], n: u64, id: u64, i: u64, zero: u64) -> u64
     requires { ⌜ Ready start (now mem) ⌝ }
 {
+    let mut kept = start;
     let mut turn: u64 = 0;
     let mut a: u64 = 0;
     while turn < n {
+        turn += 1;
         let slot = guest::address::plus(id, a & zero);
         let o = slot_manager::formed::stop_endpoint(start, mem, slot, i);
         let b = o.answer;
+        kept = o.table;
         a = guest::address::plus(a, b.code);
-        turn += 1;
     }
-    a
+    summed(kept, a)
 }
 
 #[no_mangle]
@@ -379,9 +412,11 @@ pub extern "C" fn bench_stop_formed(
 fn doorbell_turns(start: Table, mem: &mut [u8], n: u64, id: u64, i: u64, zero: u64) -> u64
     requires { ⌜ Ready start (now mem) ⌝ }
 {
+    let mut kept = start;
     let mut turn: u64 = 0;
     let mut a: u64 = 0;
     while turn < n {
+        turn += 1;
         let slot = guest::address::plus(id, a & zero);
         let look = Look {
             found: false,
@@ -390,10 +425,10 @@ fn doorbell_turns(start: Table, mem: &mut [u8], n: u64, id: u64, i: u64, zero: u
         };
         let o = slot_manager::formed::doorbell(start, mem, slot, i, look);
         let b = o.answer;
+        kept = o.table;
         a = guest::address::plus(a, b.code);
-        turn += 1;
     }
-    a
+    summed(kept, a)
 }
 
 #[no_mangle]

@@ -7,10 +7,10 @@ use Rattle.bench.proofs.bench_doorbell_stop.Statement.{statement}
 use Rattle.bench.proofs.bench_doorbell_stop.Tie as tie
 
 abbrev Inv-loop : tie.InvT-loop
-Inv-loop mem₀ n stage id i zero start turn₀ a₀ mem turn a = (turn ≤ n) × (length mem ≡ length mem₀)
+Inv-loop mem₀ n stage id i zero start kept₀ turn₀ a₀ mem kept turn a = (turn ≤ n) × (length mem ≡ length mem₀)
 
 abbrev μ-loop : tie.MeasureT-loop
-μ-loop mem₀ n stage id i zero start turn₀ a₀ mem turn a = n - turn
+μ-loop mem₀ n stage id i zero start kept₀ turn₀ a₀ mem kept turn a = n - turn
 
 life-requires : tie.Need-life-requires Inv-loop μ-loop
 life-requires c κs = search needs
@@ -39,6 +39,9 @@ loop-less c = search needs
 loop-again : tie.Need-loop-again Inv-loop μ-loop
 loop-again c = search needs
 
+summed-requires : tie.Need-summed-requires Inv-loop μ-loop
+summed-requires c κs = search needs
+
 same-length : tie.Need-same-length Inv-loop μ-loop
 same-length c = search needs
 
@@ -60,5 +63,6 @@ bench-doorbell-stop-spec =
     plus-requires-2
     loop-less
     loop-again
+    summed-requires
     same-length
     returns)

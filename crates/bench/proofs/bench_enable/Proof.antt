@@ -5,10 +5,10 @@ use Rattle.bench.proofs.bench_enable.Statement.{statement}
 use Rattle.bench.proofs.bench_enable.Tie as tie
 
 abbrev Inv-loop : tie.InvT-loop
-Inv-loop mem n stage zero start turn₀ a₀ turn a = turn ≤ n
+Inv-loop mem n stage zero start₀ kept₀ turn₀ a₀ start kept turn a = turn ≤ n
 
 abbrev μ-loop : tie.MeasureT-loop
-μ-loop mem n stage zero start turn₀ a₀ turn a = n - turn
+μ-loop mem n stage zero start₀ kept₀ turn₀ a₀ start kept turn a = n - turn
 
 life-requires : tie.Need-life-requires Inv-loop μ-loop
 life-requires c κs = search needs
@@ -16,20 +16,23 @@ life-requires c κs = search needs
 loop-holds : tie.Need-loop-holds Inv-loop μ-loop
 loop-holds c = search needs
 
+add-turn : tie.Need-add-turn Inv-loop μ-loop
+add-turn c = search needs
+
 enable-slot-requires : tie.Need-enable-slot-requires Inv-loop μ-loop
 enable-slot-requires c κs = search needs
 
 plus-requires : tie.Need-plus-requires Inv-loop μ-loop
 plus-requires c κs = search needs
 
-add-turn : tie.Need-add-turn Inv-loop μ-loop
-add-turn c = search needs
-
 loop-less : tie.Need-loop-less Inv-loop μ-loop
 loop-less c = search needs
 
 loop-again : tie.Need-loop-again Inv-loop μ-loop
 loop-again c = search needs
+
+summed-requires : tie.Need-summed-requires Inv-loop μ-loop
+summed-requires c κs = search needs
 
 same-length : tie.Need-same-length Inv-loop μ-loop
 same-length c = search needs
@@ -45,10 +48,11 @@ bench-enable-spec =
     μ-loop
     life-requires
     loop-holds
+    add-turn
     enable-slot-requires
     plus-requires
-    add-turn
     loop-less
     loop-again
+    summed-requires
     same-length
     returns)

@@ -5,13 +5,16 @@ use Rattle.bench.proofs.enable_turns.Statement.{statement}
 use Rattle.bench.proofs.enable_turns.Tie as tie
 
 abbrev Inv-loop : tie.InvT-loop
-Inv-loop start mem n zero turn₀ a₀ turn a = turn ≤ n
+Inv-loop start mem n zero kept₀ turn₀ a₀ kept turn a = turn ≤ n
 
 abbrev μ-loop : tie.MeasureT-loop
-μ-loop start mem n zero turn₀ a₀ turn a = n - turn
+μ-loop start mem n zero kept₀ turn₀ a₀ kept turn a = n - turn
 
 loop-holds : tie.Need-loop-holds Inv-loop μ-loop
 loop-holds c = search needs
+
+add-turn : tie.Need-add-turn Inv-loop μ-loop
+add-turn c = search needs
 
 enable-slot-requires : tie.Need-enable-slot-requires Inv-loop μ-loop
 enable-slot-requires c κs = search needs
@@ -19,14 +22,14 @@ enable-slot-requires c κs = search needs
 plus-requires : tie.Need-plus-requires Inv-loop μ-loop
 plus-requires c κs = search needs
 
-add-turn : tie.Need-add-turn Inv-loop μ-loop
-add-turn c = search needs
-
 loop-less : tie.Need-loop-less Inv-loop μ-loop
 loop-less c = search needs
 
 loop-again : tie.Need-loop-again Inv-loop μ-loop
 loop-again c = search needs
+
+summed-requires : tie.Need-summed-requires Inv-loop μ-loop
+summed-requires c κs = search needs
 
 returns : tie.Need-returns Inv-loop μ-loop
 returns c = search needs
@@ -38,9 +41,10 @@ enable-turns-spec =
     Inv-loop
     μ-loop
     loop-holds
+    add-turn
     enable-slot-requires
     plus-requires
-    add-turn
     loop-less
     loop-again
+    summed-requires
     returns)
