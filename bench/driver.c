@@ -1,4 +1,4 @@
-// driver [ROUNDS [TURNS]]: what a call of the slot manager costs. For each row a line: the least and the median of the rounds, in ns per call, and the row's name.
+// driver [ROUNDS [TURNS [ROW]]]: what a call of the slot manager costs. For each row a line: the least and the median of the rounds, in ns per call, and the row's name.
 // A round calls one exported loop of crates/bench for TURNS turns over a memory made afresh, and times it from outside. Each row's codes are checked.
 #include <stdint.h>
 #include <stdio.h>
@@ -80,12 +80,41 @@ static int by_size(const void *a, const void *b) {
     return (x > y) - (x < y);
 }
 
+#ifdef COPIES
+// Linked with --wrap=memcpy,--wrap=memmove, the driver counts the copies of a table that a call makes, and times nothing.
+static double copies = 0;
+void *__real_memcpy(void *to, const void *from, size_t size);
+void *__real_memmove(void *to, const void *from, size_t size);
+void *__wrap_memcpy(void *to, const void *from, size_t size) {
+    copies += size > 4096;
+    return __real_memcpy(to, from, size);
+}
+void *__wrap_memmove(void *to, const void *from, size_t size) {
+    copies += size > 4096;
+    return __real_memmove(to, from, size);
+}
+
+int main(void) {
+    for (size_t r = 0; r < sizeof rows / sizeof *rows; r++) {
+        double counted[2];
+        for (int k = 0; k < 2; k++) {
+            prepare();
+            copies = 0;
+            rows[r].run(1 + k);
+            counted[k] = copies;
+        }
+        printf("%9.1f %9.1f  %s\n", counted[1] - counted[0], 0.0, rows[r].label);
+    }
+    return 0;
+}
+#else
 int main(int argc, char **argv) {
     int rounds = argc > 1 ? atoi(argv[1]) : 25;
     uint64_t turns = argc > 2 ? strtoull(argv[2], 0, 10) : 2000;
     double *ns = malloc(sizeof *ns * rounds);
     if (rounds < 1 || turns < 1 || !ns) return 2;
     for (size_t r = 0; r < sizeof rows / sizeof *rows; r++) {
+        if (argc > 3 && strcmp(argv[3], rows[r].label)) continue;
         for (int k = 0; k < rounds; k++) {
             prepare();
             rows[r].run(1);
@@ -110,3 +139,4 @@ int main(int argc, char **argv) {
     }
     return 0;
 }
+#endif
