@@ -3,7 +3,7 @@
 
     make_edges.py > crates/edges/stdout
 
-Each line: what is tried; the call and its numbers; the answer's eight numbers; checksums of
+Under a heading, each line: the call and its numbers; the answer's eight numbers; checksums of
 the table and of memory after the call, and whether they are those before it.
 """
 
@@ -121,7 +121,7 @@ def arguments(name, slot, endpoint, pointer, flag):
     return [slot, endpoint, pointer, flag] if name in TAKES_PLACE else [slot, endpoint]
 
 
-def attempt(what, name, *numbers, table=None, lent=None):
+def attempt(name, *numbers, table=None, lent=None):
     """A call on a table and a memory of its own."""
     table = plain_table() if table is None else table.copy()
     lent = memory() if lent is None else lent
@@ -129,31 +129,34 @@ def attempt(what, name, *numbers, table=None, lent=None):
     lends = [] if name in LENDS_NONE else [lent]
     answer = rule(name)(table, *lends, *arguments(name, *numbers))
     after = table_sum(table), memory_sum(lent)
-    print(what, name, *numbers, "|", *answer, "|", *after, "same" if before == after else "changed")
+    print(name, *numbers, "|", *answer, "|", *after, "same" if before == after else "changed")
 
 
-def every(what, table, length=4096, slot=1, endpoint=2):
+def every(table, length=4096, slot=1, endpoint=2):
     """Every call that takes a table."""
+    print("every", length, slot, endpoint)
     for name in TABLE_CALLS + SLOT_CALLS + ENDPOINT_CALLS:
-        attempt(what, name, slot, endpoint, PLACE, 0, table=table, lent=memory(length))
+        attempt(name, slot, endpoint, PLACE, 0, table=table, lent=memory(length))
 
 
 # ---- what is tried
 
 def ids():
+    print("ids")
     for name in ("set-limit", "set-dcbaap") + SLOT_CALLS + ENDPOINT_CALLS:
         for number in NUMBERS:
-            attempt("ids", name, number, 1, PLACE, 1)
+            attempt(name, number, 1, PLACE, 1)
         if name in ENDPOINT_CALLS:
             for number in NUMBERS:
                 if number != 1:
-                    attempt("ids", name, 1, number, PLACE, 1)
-            attempt("ids", name, MOST, MOST, PLACE, 1)
+                    attempt(name, 1, number, PLACE, 1)
+            attempt(name, MOST, MOST, PLACE, 1)
 
 
 def tables():
+    print("enable")
     for limit in 0, 1, 3, 4, 16, 17:
-        attempt("enable", "enable-slot", limit, 0, 0, 0, table=with_numbers(limit=limit))
+        attempt("enable-slot", limit, 0, 0, 0, table=with_numbers(limit=limit))
     for length in 0, 1, 4096, 2**30 - 1, 2**30, 2**30 + 1, 2**32, MOST:
         answer, table = reading.make_table(length)
         print("make-table", length, "|", *answer, "|", table_sum(table))
@@ -165,71 +168,87 @@ def inputs():
              ("address-device", 3, 1), ("configure-endpoint", 1, 0), ("configure-endpoint", 1, 1),
              ("configure-endpoint", 2, 0), ("configure-endpoint", 16, 0),
              ("evaluate-context", 2, 0)]
-    for what, flags, kind in ("no-flags", 0, 0), ("first-flag", 2, 4), ("last-flag", 2**31, 4):
+    for what, flags, kind in ("no flags", 0, 0), ("first flag", 2, 4), ("last flag", 2**31, 4):
+        print(what)
         for name, slot, flag in tried:
             for place in places:
-                attempt(what, name, slot, 0, place, flag, lent=memory(flags=flags, kind=kind))
+                attempt(name, slot, 0, place, flag, lent=memory(flags=flags, kind=kind))
+    print("types")
     for kind in range(8):
         for name, slot in ("address-device", 2), ("configure-endpoint", 1), ("evaluate-context", 3):
-            attempt("type", name, slot, 0, PLACE, 0, lent=memory(flags=2, kind=kind))
+            attempt(name, slot, 0, PLACE, 0, lent=memory(flags=2, kind=kind))
 
 
 def bases():
+    print("bases")
     for base in 0, 4032, 4033, 4096, 2**64 - 4, 2**64 - 32, MOST:
         for flag in 0, 1:
-            attempt("base", "address-device", 2, 0, PLACE, flag, lent=memory(base=base))
+            attempt("address-device", 2, 0, PLACE, flag, lent=memory(base=base))
+    print("entries")
     for entry in 0, 4032, 4033, 4088, 4089, 4096, 2**64 - 4, 2**64 - 32, MOST:
-        attempt("entry", "address-device", 2, 0, PLACE, 0, table=with_slot(2, ENABLED, 0, entry))
+        attempt("address-device", 2, 0, PLACE, 0, table=with_slot(2, ENABLED, 0, entry))
 
 
 def rings():
+    print("rings")
     for name in "set-dequeue", "doorbell", "host-ok", "host-stall", "host-transaction-error":
         for endpoint in range(1, 7):
             for place in 0, 4032, 4033, 4096, 2**64 - 16, 2**64 - 4, 2**64 - 32:
-                attempt("ring", name, 1, endpoint, place, 1)
+                attempt(name, 1, endpoint, place, 1)
 
 
 def lengths():
-    every("short", plain_table(), 4095)
-    every("short", plain_table(), 4095, 0, 0)
-    every("long", plain_table(), 4097)
-    every("long", plain_table(), 4097, MOST, MOST)
-    every("none", plain_table(), 0)
-    every("both", with_numbers(limit=17), 4095, 0, 0)
-    every("longest", with_numbers(length=2**30))
+    every(plain_table(), 4095)
+    every(plain_table(), 4095, 0, 0)
+    every(plain_table(), 4097)
+    every(plain_table(), 4097, MOST, MOST)
+    every(plain_table(), 0)
+    every(with_numbers(limit=17), 4095, 0, 0)
+    every(with_numbers(length=2**30))
 
 
-MALFORMED = {
-    "limit-17": with_numbers(limit=17),
-    "limit-most": with_numbers(limit=MOST),
-    "length-above": with_numbers(length=2**30 + 1),
-    "length-most": with_numbers(length=MOST),
-    "length-below": with_numbers(length=4095),
-    "free-base": with_slot(4, FREE, 1, 0),
-    "free-entry": with_slot(4, FREE, 0, 1),
-    "free-last": with_slot(15, FREE, MOST, 0),
-    "free-endpoint": with_endpoint(4, 1, WAITING, 0, 0),
-    "free-cycle": with_endpoint(4, 1, DISABLED, 1, 0),
-    "free-pointer": with_endpoint(15, 31, DISABLED, 0, 16),
-    "enabled-base": with_slot(2, ENABLED, 1, 272),
-    "enabled-first": with_endpoint(2, 1, WAITING, 0, 0),
-    "enabled-last": with_endpoint(2, 31, STOPPED, 0, 3072),
-    "default-outside": with_slot(3, DEFAULT, 4033, 280),
-    "addressed-outside": with_slot(16, ADDRESSED, 4096, 384),
-    "configured-outside": with_slot(1, CONFIGURED, 4033, 264),
-    "base-wraps": with_slot(3, DEFAULT, 2**64 - 32, 280),
-    "base-most": with_slot(3, DEFAULT, MOST, 280),
-    "default-no-first": with_endpoint(3, 1),
-    "addressed-no-first": with_endpoint(16, 1),
-    "configured-no-first": with_endpoint(1, 1),
-    "second-outside": with_endpoint(16, 2, WAITING, 0, 3072),
-    "last-outside": with_endpoint(16, 31, IN_FLIGHT, 0, 3072),
-    "disabled-cycle": with_endpoint(1, 7, DISABLED, 1, 0),
-    "disabled-pointer": with_endpoint(1, 7, DISABLED, 0, 16),
-    "unaligned-first": with_endpoint(1, 1, WAITING, 1, 3073),
-    "unaligned-last": with_endpoint(1, 31, STOPPED, 1, 3176),
-    "unaligned-most": with_endpoint(1, 2, IN_FLIGHT, 0, MOST),
-}
+# The records that spoil a table: a slot's, or that of a slot's endpoint.
+MALFORMED = [
+    (with_slot, 4, FREE, 1, 0),
+    (with_slot, 4, FREE, 0, 1),
+    (with_slot, 15, FREE, MOST, 0),
+    (with_endpoint, 4, 1, WAITING, 0, 0),
+    (with_endpoint, 4, 1, DISABLED, 1, 0),
+    (with_endpoint, 15, 31, DISABLED, 0, 16),
+    (with_slot, 2, ENABLED, 1, 272),
+    (with_endpoint, 2, 1, WAITING, 0, 0),
+    (with_endpoint, 2, 31, STOPPED, 0, 3072),
+    (with_slot, 3, DEFAULT, 4033, 280),
+    (with_slot, 16, ADDRESSED, 4096, 384),
+    (with_slot, 1, CONFIGURED, 4033, 264),
+    (with_slot, 3, DEFAULT, 2**64 - 32, 280),
+    (with_slot, 3, DEFAULT, MOST, 280),
+    (with_endpoint, 3, 1, DISABLED, 0, 0),
+    (with_endpoint, 16, 1, DISABLED, 0, 0),
+    (with_endpoint, 1, 1, DISABLED, 0, 0),
+    (with_endpoint, 16, 2, WAITING, 0, 3072),
+    (with_endpoint, 16, 31, IN_FLIGHT, 0, 3072),
+    (with_endpoint, 1, 7, DISABLED, 1, 0),
+    (with_endpoint, 1, 7, DISABLED, 0, 16),
+    (with_endpoint, 1, 1, WAITING, 1, 3073),
+    (with_endpoint, 1, 31, STOPPED, 1, 3176),
+    (with_endpoint, 1, 2, IN_FLIGHT, 0, MOST),
+]
+
+
+def malformed():
+    print("limits and lengths")
+    for numbers in ({"limit": 17}, {"limit": MOST}, {"length": 2**30 + 1}, {"length": MOST},
+                    {"length": 4095}):
+        every(with_numbers(**numbers))
+    for spoilt, *numbers in MALFORMED:
+        if spoilt is with_slot:
+            slot, *record = numbers
+            print("slot", slot - 1, *record)
+        else:
+            slot, endpoint, *record = numbers
+            print("endpoint", (slot - 1) * 31 + endpoint - 1, *record)
+        every(spoilt(*numbers))
 
 
 def main():
@@ -239,8 +258,7 @@ def main():
     bases()
     rings()
     lengths()
-    for what, table in MALFORMED.items():
-        every(what, table)
+    malformed()
 
 
 main()

@@ -13,10 +13,9 @@ pub const PLAIN: Guest = Guest {
     kind: 0,
 };
 
-fn run(what: &[u8], t: Table, mem: &mut [u8], c: Call, id: u64, i: u64, pointer: u64, flag: bool) {
+fn run(t: Table, mem: &mut [u8], c: Call, id: u64, i: u64, pointer: u64, flag: bool) {
     let before = crate::sums::of(t, mem);
     let r = crate::calls::make(c, t, mem, id, i, pointer, flag);
-    crate::show::text(what);
     crate::show::call(c);
     crate::show::number(id);
     crate::show::number(i);
@@ -26,28 +25,17 @@ fn run(what: &[u8], t: Table, mem: &mut [u8], c: Call, id: u64, i: u64, pointer:
 }
 
 // A call that is lent this many bytes, at most 4097.
-pub fn call(
-    what: &[u8],
-    t: Table,
-    g: Guest,
-    n: usize,
-    c: Call,
-    id: u64,
-    i: u64,
-    pointer: u64,
-    flag: bool,
-) {
+pub fn call(t: Table, g: Guest, n: usize, c: Call, id: u64, i: u64, pointer: u64, flag: bool) {
     let mut mem = [0u8; 4097];
     if n <= 4097 {
         crate::setting::fill(&mut mem, g);
-        run(what, t, &mut mem[0..n], c, id, i, pointer, flag);
+        run(t, &mut mem[0..n], c, id, i, pointer, flag);
     }
 }
 
 // A call on the well formed table and its own memory.
-pub fn plain(what: &[u8], c: Call, id: u64, i: u64, pointer: u64) {
+pub fn plain(c: Call, id: u64, i: u64, pointer: u64) {
     call(
-        what,
         crate::setting::table(),
         PLAIN,
         4096,
@@ -60,59 +48,38 @@ pub fn plain(what: &[u8], c: Call, id: u64, i: u64, pointer: u64) {
 }
 
 // One of the calls in `every`, which all bring the same pointer.
-fn one(what: &[u8], t: Table, n: usize, c: Call, id: u64, i: u64) {
-    call(what, t, PLAIN, n, c, id, i, 2048, false);
+fn one(t: Table, n: usize, c: Call, id: u64, i: u64) {
+    call(t, PLAIN, n, c, id, i, 2048, false);
 }
 
-fn commands(what: &[u8], t: Table, n: usize, id: u64, i: u64) {
-    one(what, t, n, Call::Table(TableCall::SetLimit), id, i);
-    one(what, t, n, Call::Table(TableCall::SetDcbaap), id, i);
-    one(what, t, n, Call::Table(TableCall::EnableSlot), id, i);
-    one(what, t, n, Call::Table(TableCall::ResetAll), id, i);
-    one(what, t, n, Call::Slot(SlotCall::DisableSlot), id, i);
-    one(what, t, n, Call::Slot(SlotCall::AddressDevice), id, i);
-    one(what, t, n, Call::Slot(SlotCall::ConfigureEndpoint), id, i);
-    one(what, t, n, Call::Slot(SlotCall::EvaluateContext), id, i);
-    one(what, t, n, Call::Slot(SlotCall::ResetDevice), id, i);
+fn commands(t: Table, n: usize, id: u64, i: u64) {
+    one(t, n, Call::Table(TableCall::SetLimit), id, i);
+    one(t, n, Call::Table(TableCall::SetDcbaap), id, i);
+    one(t, n, Call::Table(TableCall::EnableSlot), id, i);
+    one(t, n, Call::Table(TableCall::ResetAll), id, i);
+    one(t, n, Call::Slot(SlotCall::DisableSlot), id, i);
+    one(t, n, Call::Slot(SlotCall::AddressDevice), id, i);
+    one(t, n, Call::Slot(SlotCall::ConfigureEndpoint), id, i);
+    one(t, n, Call::Slot(SlotCall::EvaluateContext), id, i);
+    one(t, n, Call::Slot(SlotCall::ResetDevice), id, i);
 }
 
-// Every call that takes a table.
-pub fn every(what: &[u8], t: Table, n: usize, id: u64, i: u64) {
-    commands(what, t, n, id, i);
+// Every call that takes a table, under a heading: the length, the ids.
+pub fn every(t: Table, n: usize, id: u64, i: u64) {
+    crate::show::every(n, id, i);
+    commands(t, n, id, i);
+    one(t, n, Call::Endpoint(EndpointCall::StopEndpoint), id, i);
+    one(t, n, Call::Endpoint(EndpointCall::ResetEndpoint), id, i);
+    one(t, n, Call::Endpoint(EndpointCall::SetDequeue), id, i);
+    one(t, n, Call::Endpoint(EndpointCall::Doorbell), id, i);
+    one(t, n, Call::Endpoint(EndpointCall::HostOk), id, i);
+    one(t, n, Call::Endpoint(EndpointCall::HostStall), id, i);
     one(
-        what,
-        t,
-        n,
-        Call::Endpoint(EndpointCall::StopEndpoint),
-        id,
-        i,
-    );
-    one(
-        what,
-        t,
-        n,
-        Call::Endpoint(EndpointCall::ResetEndpoint),
-        id,
-        i,
-    );
-    one(what, t, n, Call::Endpoint(EndpointCall::SetDequeue), id, i);
-    one(what, t, n, Call::Endpoint(EndpointCall::Doorbell), id, i);
-    one(what, t, n, Call::Endpoint(EndpointCall::HostOk), id, i);
-    one(what, t, n, Call::Endpoint(EndpointCall::HostStall), id, i);
-    one(
-        what,
         t,
         n,
         Call::Endpoint(EndpointCall::HostTransactionError),
         id,
         i,
     );
-    one(
-        what,
-        t,
-        n,
-        Call::Endpoint(EndpointCall::HostTrbError),
-        id,
-        i,
-    );
+    one(t, n, Call::Endpoint(EndpointCall::HostTrbError), id, i);
 }

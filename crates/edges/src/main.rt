@@ -1,5 +1,5 @@
 // Bad input to every call of the slot manager: ids, limits, pointers, tables and memory lengths at their edges.
-// A line has: what is tried; the call and its numbers; the answer's eight numbers; checksums of the table and of memory after the call, and
+// Under a heading, a line has: the call and its numbers; the answer's eight numbers; checksums of the table and of memory after the call, and
 // whether they are those before it.
 // The file stdout was not made by a run: a script that follows the scope document, tests/make_edges.py, made it.
 mod attempt;
@@ -20,7 +20,7 @@ const MOST: u64 = 0xffff_ffff_ffff_ffff;
 // ---- ids and limits
 
 fn ids(c: Call, id: u64, i: u64) {
-    attempt::plain(b"ids", c, id, i, 2048);
+    attempt::plain(c, id, i, 2048);
 }
 
 // Slot ids, or limits, or values of DCBAAP.
@@ -55,6 +55,7 @@ fn both(k: EndpointCall) {
 }
 
 fn every_id() {
+    show::text(b"ids\n");
     first(Call::Table(TableCall::SetLimit));
     first(Call::Table(TableCall::SetDcbaap));
     first(Call::Slot(SlotCall::DisableSlot));
@@ -77,7 +78,6 @@ fn every_id() {
 fn enable(limit: u64) {
     let t = setting::with_limit(setting::table(), limit);
     attempt::call(
-        b"enable",
         t,
         attempt::PLAIN,
         4096,
@@ -90,6 +90,7 @@ fn enable(limit: u64) {
 }
 
 fn enables() {
+    show::text(b"enable\n");
     enable(0);
     enable(1);
     enable(3);
@@ -123,13 +124,13 @@ fn makes() {
 // A byte short, a byte long, and none; then a malformed table too, for which 198 comes first; then a length in range that is not the memory's.
 fn lengths() {
     let t = setting::table();
-    attempt::every(b"short", t, 4095, 1, 2);
-    attempt::every(b"short", t, 4095, 0, 0);
-    attempt::every(b"long", t, 4097, 1, 2);
-    attempt::every(b"long", t, 4097, MOST, MOST);
-    attempt::every(b"none", t, 0, 1, 2);
-    attempt::every(b"both", setting::with_limit(t, 17), 4095, 0, 0);
-    attempt::every(b"longest", setting::with_length(t, 1073741824), 4096, 1, 2);
+    attempt::every(t, 4095, 1, 2);
+    attempt::every(t, 4095, 0, 0);
+    attempt::every(t, 4097, 1, 2);
+    attempt::every(t, 4097, MOST, MOST);
+    attempt::every(t, 0, 1, 2);
+    attempt::every(setting::with_limit(t, 17), 4095, 0, 0);
+    attempt::every(setting::with_length(t, 1073741824), 4096, 1, 2);
 }
 
 fn main() {

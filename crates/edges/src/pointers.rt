@@ -9,9 +9,8 @@ use definition::SlotState;
 
 // ---- input contexts
 
-fn input(what: &[u8], g: Guest, c: SlotCall, id: u64, pointer: u64, flag: bool) {
+fn input(g: Guest, c: SlotCall, id: u64, pointer: u64, flag: bool) {
     attempt::call(
-        what,
         setting::table(),
         g,
         4096,
@@ -23,29 +22,29 @@ fn input(what: &[u8], g: Guest, c: SlotCall, id: u64, pointer: u64, flag: bool) 
     );
 }
 
-fn at(what: &[u8], g: Guest, c: SlotCall, id: u64, flag: bool) {
-    input(what, g, c, id, 0, flag);
-    input(what, g, c, id, 2048, flag);
-    input(what, g, c, id, 4000, flag);
-    input(what, g, c, id, 4001, flag);
-    input(what, g, c, id, 4032, flag);
-    input(what, g, c, id, 4033, flag);
-    input(what, g, c, id, 4096, flag);
-    input(what, g, c, id, 0xffff_ffff_ffff_fffc, flag);
-    input(what, g, c, id, 0xffff_ffff_ffff_ffe0, flag);
+fn at(g: Guest, c: SlotCall, id: u64, flag: bool) {
+    input(g, c, id, 0, flag);
+    input(g, c, id, 2048, flag);
+    input(g, c, id, 4000, flag);
+    input(g, c, id, 4001, flag);
+    input(g, c, id, 4032, flag);
+    input(g, c, id, 4033, flag);
+    input(g, c, id, 4096, flag);
+    input(g, c, id, 0xffff_ffff_ffff_fffc, flag);
+    input(g, c, id, 0xffff_ffff_ffff_ffe0, flag);
 }
 
 // Each call with an input context, in each slot state.
-fn all(what: &[u8], g: Guest) {
-    at(what, g, SlotCall::AddressDevice, 2, false);
-    at(what, g, SlotCall::AddressDevice, 2, true);
-    at(what, g, SlotCall::AddressDevice, 3, false);
-    at(what, g, SlotCall::AddressDevice, 3, true);
-    at(what, g, SlotCall::ConfigureEndpoint, 1, false);
-    at(what, g, SlotCall::ConfigureEndpoint, 1, true);
-    at(what, g, SlotCall::ConfigureEndpoint, 2, false);
-    at(what, g, SlotCall::ConfigureEndpoint, 16, false);
-    at(what, g, SlotCall::EvaluateContext, 2, false);
+fn all(g: Guest) {
+    at(g, SlotCall::AddressDevice, 2, false);
+    at(g, SlotCall::AddressDevice, 2, true);
+    at(g, SlotCall::AddressDevice, 3, false);
+    at(g, SlotCall::AddressDevice, 3, true);
+    at(g, SlotCall::ConfigureEndpoint, 1, false);
+    at(g, SlotCall::ConfigureEndpoint, 1, true);
+    at(g, SlotCall::ConfigureEndpoint, 2, false);
+    at(g, SlotCall::ConfigureEndpoint, 16, false);
+    at(g, SlotCall::EvaluateContext, 2, false);
 }
 
 // A type of endpoint 1, with its flag set.
@@ -55,12 +54,13 @@ fn kind(n: u64) {
         flags: 0x2_0000_0000,
         kind: n,
     };
-    input(b"type", g, SlotCall::AddressDevice, 2, 2048, false);
-    input(b"type", g, SlotCall::ConfigureEndpoint, 1, 2048, false);
-    input(b"type", g, SlotCall::EvaluateContext, 3, 2048, false);
+    input(g, SlotCall::AddressDevice, 2, 2048, false);
+    input(g, SlotCall::ConfigureEndpoint, 1, 2048, false);
+    input(g, SlotCall::EvaluateContext, 3, 2048, false);
 }
 
 fn kinds() {
+    crate::show::text(b"types\n");
     kind(0);
     kind(0x08_0000_0000);
     kind(0x10_0000_0000);
@@ -72,19 +72,22 @@ fn kinds() {
 }
 
 pub fn inputs() {
-    all(b"no-flags", attempt::PLAIN);
+    crate::show::text(b"no flags\n");
+    all(attempt::PLAIN);
     let first = Guest {
         base: 1536,
         flags: 0x2_0000_0000,
         kind: 0x20_0000_0000,
     };
-    all(b"first-flag", first);
+    crate::show::text(b"first flag\n");
+    all(first);
     let last = Guest {
         base: 1536,
         flags: 0x8000_0000_0000_0000,
         kind: 0x20_0000_0000,
     };
-    all(b"last-flag", last);
+    crate::show::text(b"last flag\n");
+    all(last);
     kinds();
 }
 
@@ -96,14 +99,13 @@ fn base(n: u64) {
         flags: 0,
         kind: 0,
     };
-    input(b"base", g, SlotCall::AddressDevice, 2, 2048, false);
-    input(b"base", g, SlotCall::AddressDevice, 2, 2048, true);
+    input(g, SlotCall::AddressDevice, 2, 2048, false);
+    input(g, SlotCall::AddressDevice, 2, 2048, true);
 }
 
 fn entry(n: u64) {
     let t = setting::with_slot(setting::table(), 1, SlotState::Enabled, 0, n);
     attempt::call(
-        b"entry",
         t,
         attempt::PLAIN,
         4096,
@@ -116,6 +118,7 @@ fn entry(n: u64) {
 }
 
 fn entries() {
+    crate::show::text(b"entries\n");
     entry(0);
     entry(4032);
     entry(4033);
@@ -128,6 +131,7 @@ fn entries() {
 }
 
 pub fn bases() {
+    crate::show::text(b"bases\n");
     base(0);
     base(4032);
     base(4033);
@@ -141,7 +145,7 @@ pub fn bases() {
 // ---- transfer rings
 
 fn ring(c: EndpointCall, i: u64, pointer: u64) {
-    attempt::plain(b"ring", Call::Endpoint(c), 1, i, pointer);
+    attempt::plain(Call::Endpoint(c), 1, i, pointer);
 }
 
 fn places(c: EndpointCall, i: u64) {
@@ -165,6 +169,7 @@ fn states(c: EndpointCall) {
 }
 
 pub fn rings() {
+    crate::show::text(b"rings\n");
     states(EndpointCall::SetDequeue);
     states(EndpointCall::Doorbell);
     states(EndpointCall::HostOk);

@@ -27,33 +27,33 @@ pub fn flag(b: bool) {
 
 fn table_call(c: TableCall) {
     match c {
-        TableCall::SetLimit => text(b" set-limit"),
-        TableCall::SetDcbaap => text(b" set-dcbaap"),
-        TableCall::EnableSlot => text(b" enable-slot"),
-        TableCall::ResetAll => text(b" reset-all"),
+        TableCall::SetLimit => text(b"set-limit"),
+        TableCall::SetDcbaap => text(b"set-dcbaap"),
+        TableCall::EnableSlot => text(b"enable-slot"),
+        TableCall::ResetAll => text(b"reset-all"),
     }
 }
 
 fn slot_call(c: SlotCall) {
     match c {
-        SlotCall::DisableSlot => text(b" disable-slot"),
-        SlotCall::AddressDevice => text(b" address-device"),
-        SlotCall::ConfigureEndpoint => text(b" configure-endpoint"),
-        SlotCall::EvaluateContext => text(b" evaluate-context"),
-        SlotCall::ResetDevice => text(b" reset-device"),
+        SlotCall::DisableSlot => text(b"disable-slot"),
+        SlotCall::AddressDevice => text(b"address-device"),
+        SlotCall::ConfigureEndpoint => text(b"configure-endpoint"),
+        SlotCall::EvaluateContext => text(b"evaluate-context"),
+        SlotCall::ResetDevice => text(b"reset-device"),
     }
 }
 
 fn endpoint_call(c: EndpointCall) {
     match c {
-        EndpointCall::StopEndpoint => text(b" stop-endpoint"),
-        EndpointCall::ResetEndpoint => text(b" reset-endpoint"),
-        EndpointCall::SetDequeue => text(b" set-dequeue"),
-        EndpointCall::Doorbell => text(b" doorbell"),
-        EndpointCall::HostOk => text(b" host-ok"),
-        EndpointCall::HostStall => text(b" host-stall"),
-        EndpointCall::HostTransactionError => text(b" host-transaction-error"),
-        EndpointCall::HostTrbError => text(b" host-trb-error"),
+        EndpointCall::StopEndpoint => text(b"stop-endpoint"),
+        EndpointCall::ResetEndpoint => text(b"reset-endpoint"),
+        EndpointCall::SetDequeue => text(b"set-dequeue"),
+        EndpointCall::Doorbell => text(b"doorbell"),
+        EndpointCall::HostOk => text(b"host-ok"),
+        EndpointCall::HostStall => text(b"host-stall"),
+        EndpointCall::HostTransactionError => text(b"host-transaction-error"),
+        EndpointCall::HostTrbError => text(b"host-trb-error"),
     }
 }
 
@@ -63,6 +63,15 @@ pub fn call(c: Call) {
         Call::Slot(k) => slot_call(k),
         Call::Endpoint(k) => endpoint_call(k),
     }
+}
+
+// A heading: the numbers that all calls under it share.
+pub fn every(n: usize, id: u64, i: u64) {
+    text(b"every");
+    number(n as u64);
+    number(id);
+    number(i);
+    text(b"\n");
 }
 
 fn answer(a: Answer) {

@@ -23,7 +23,7 @@ fn whole(sum: u64, n: u64) -> u64 {
     half(half(sum, n), n / 4294967296)
 }
 
-fn slot_number(state: SlotState) -> u64 {
+pub fn slot_number(state: SlotState) -> u64 {
     match state {
         SlotState::Free => 0,
         SlotState::Enabled => 1,
@@ -33,7 +33,7 @@ fn slot_number(state: SlotState) -> u64 {
     }
 }
 
-fn endpoint_number(state: EndpointState) -> u64 {
+pub fn endpoint_number(state: EndpointState) -> u64 {
     match state {
         EndpointState::Disabled => 0,
         EndpointState::Waiting => 1,
@@ -45,7 +45,7 @@ fn endpoint_number(state: EndpointState) -> u64 {
     }
 }
 
-fn bit(b: bool) -> u64 {
+pub fn bit(b: bool) -> u64 {
     if b { 1 } else { 0 }
 }
 
