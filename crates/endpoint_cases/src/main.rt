@@ -2,6 +2,7 @@
 // A line has: the state and the input with its place; the answer's code, submit, cancel and bytes stored; the record; the memory.
 // A place is pointer and cycle. Pointers are in hexadecimal, and so is memory: five words of 8 bytes, the context's 32 from byte 8 on.
 // The file stdout was not made by a run: a script that was written from the scope document's table of steps made it.
+// oracle/steps.py holds it against the unchanged Rust, line by line, where the Rust has an answer.
 use definition::Dequeue;
 use definition::Endpoint;
 use definition::EndpointState;
