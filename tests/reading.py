@@ -1,4 +1,6 @@
-"""A second reading of the rules of document 01, written from its text alone.
+"""A second reading of the rules of document 01, written from its text. Where the text leaves a
+question open, a comment says "Decided here"; the cycle of a place that a Stall or Transaction Error
+gives was decided after the Rust.
 
 A call takes the table, the guest's memory where it lends one, and its numbers;
 it answers eight numbers and changes table and memory in place.  Identifiers,

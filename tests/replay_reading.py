@@ -31,8 +31,7 @@ LONG = 2**64 - 1
 
 # The bits that a kind uses of each field.  It uses a field even where this record's flag
 # makes it irrelevant: DC=1 may carry P, and a Stall without a given pointer may carry one.
-# Decided here: flag bit 0 of a Stall or Transaction Error may hold a cycle, which no step
-# takes.
+# Flag bit 0 of a Stall or Transaction Error holds the cycle of the place that is given.
 USES = {
     #                   slot  endp. flag  pointer value
     SET_LIMIT:          (0,    0,    0b00, 0,    LONG),

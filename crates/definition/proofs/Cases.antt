@@ -114,6 +114,16 @@ cases =
       pointer = 0;
       cycle = false;
     }
+    -- not starred, of "All drops, ascending, then all adds": endpoint 3 dropped and added in one Configure is launched at the end
+    ∷ record {
+      events = configured ++ (store 2048 8 ∷ call (configureEndpoint 1 2048 false) ∷ []);
+      answers = toConfigured ++ (says 1 0 8 8 35 ∷ []);
+      places = 1039 ∷ 1120 ∷ [];
+      held = 24 ∷ 1 ∷ [];
+      endpoint = 3;
+      pointer = 0;
+      cycle = false;
+    }
     -- P = 2^64−4, slot 1 just enabled: Address BSR=0 reads flags 0 at 0 and answers 1; Configure with DC=0 and the same P is then 193
     ∷ record {
       events = ready ++ (call (addressDevice 1 (2 ^ 64 - 4) false) ∷ call (configureEndpoint 1 (2 ^ 64 - 4) false) ∷ []);

@@ -1,7 +1,7 @@
 // All fifty-four entries of the table of steps, each with the places that its input can bring, and launch and terminate.
 // A line has: the state and the input with its place; the answer's code, submit, cancel and bytes stored; the record; the memory.
 // A place is pointer and cycle. Pointers are in hexadecimal, and so is memory: five words of 8 bytes, the context's 32 from byte 8 on.
-// The file stdout was not made by a run: a script that was written from the scope document's table of steps made it.
+// The file stdout was not made by a run: tests/make_steps.py, a script that was written from the scope document, made it.
 // oracle/steps.py holds it against the unchanged Rust, line by line, where the Rust has an answer.
 use definition::Dequeue;
 use definition::Endpoint;
