@@ -16,20 +16,15 @@
 
 // A slice is passed as its address and its length.
 #define LENT uint8_t *mem, uint64_t len, uint64_t n, uint64_t stage
+// The calls, by the numbers that crates/bench has for them. RESET and DOORBELL are what a loop takes for any other number.
+enum { ENABLE, DISABLE, ADDRESS, CONFIGURE, EVALUATE, STOP, SET_DEQUEUE, RESET, DOORBELL };
 uint64_t bench_enable(LENT, uint64_t zero);
-uint64_t bench_disable(LENT, uint64_t id, uint64_t zero);
-uint64_t bench_address(LENT, uint64_t pointer, uint64_t bsr, uint64_t zero);
-uint64_t bench_configure(LENT, uint64_t pointer, uint64_t dc, uint64_t zero);
-uint64_t bench_evaluate(LENT, uint64_t pointer, uint64_t zero);
-uint64_t bench_reset(LENT, uint64_t id, uint64_t zero);
-uint64_t bench_stop(LENT, uint64_t id, uint64_t i, uint64_t zero);
-uint64_t bench_set_dequeue(LENT, uint64_t id, uint64_t i, uint64_t zero);
-uint64_t bench_doorbell(LENT, uint64_t id, uint64_t i, uint64_t zero);
+uint64_t bench_slot(LENT, uint64_t call, uint64_t id, uint64_t zero);
+uint64_t bench_context(LENT, uint64_t call, uint64_t pointer, uint64_t flag, uint64_t zero);
+uint64_t bench_endpoint(LENT, uint64_t call, uint64_t id, uint64_t i, uint64_t zero);
 uint64_t bench_doorbell_stop(LENT, uint64_t id, uint64_t i, uint64_t zero);
-uint64_t bench_enable_formed(LENT, uint64_t zero);
-uint64_t bench_evaluate_formed(LENT, uint64_t pointer, uint64_t zero);
-uint64_t bench_stop_formed(LENT, uint64_t id, uint64_t i, uint64_t zero);
-uint64_t bench_doorbell_formed(LENT, uint64_t id, uint64_t i, uint64_t zero);
+// Without the scan; x is the pointer of Evaluate Context, and else a slot id.
+uint64_t bench_formed(LENT, uint64_t call, uint64_t x, uint64_t i, uint64_t zero);
 
 static uint8_t mem[LENGTH] __attribute__((aligned(64)));
 

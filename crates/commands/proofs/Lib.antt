@@ -1,4 +1,3 @@
 pub mod OutcomeLaws
 pub mod ReachLaws
-pub mod AddressLaws
 pub mod ConfigureLaws

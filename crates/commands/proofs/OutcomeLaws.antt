@@ -1,17 +1,15 @@
 -- How commands end: from what their parts promise to what the call promises.
 -- Assumes nothing.
 use mathlib.Core.Path.{_≡_, refl, sym, ap, _∙_}
-use mathlib.Core.Bool.{Bool, true, false}
-use mathlib.Core.List.{List, [], _∷_}
-use mathlib.Core.Logic.{⊎-elim}
-use Prim.Native.Nat.{ℕ, _+_, _*_, _≤_}
+use mathlib.Core.Bool.{true, false}
+use mathlib.Core.List.{[], _∷_}
+use Prim.Native.Nat.{ℕ, _+_, _≤_}
 use native.Mathlib.Omega.{arith}
 use lib.ListN.{length}
 use Rattle.guest.specs.Bytes.{slotStateByte, count}
-use Rattle.guest.specs.Prog.{Mem, Prog, done, splice, Ran, run, Ends, bind, Result, ok, refuse}
+use Rattle.guest.specs.Prog.{Mem, Prog, done, splice, Ran, run, bind, Result, ok, refuse}
 use Rattle.guest.proofs.RunLaws.{run-bind, after, ends-value}
-use Rattle.definition.specs.Table.{slotNumber, slotOf, withSlot, free}
-use Rattle.definition.specs.Walks.{begin}
+use Rattle.definition.specs.Table.{slotOf, withSlot, free}
 use Rattle.definition.specs.Commands.{Told, contextState, onSlot, settled, finish, deconfigure, freeing, walked}
 use Rattle.definition.specs.Calls.{told}
 use Rattle.definition.specs.Rules.{Opened}
@@ -21,8 +19,7 @@ use Rattle.definition.proofs.HeadLaws.{slot-opens}
 use Rattle.walks.specs.Promises.{walk, Rooms, TerminatesAll}
 use Rattle.walks.specs.declared.Ended.{Ended}
 use Rattle.walks.proofs.RoomLaws.{formed-rooms}
-use Rattle.commands.specs.declared.outcome.Tally.{Tally}
-use Rattle.commands.specs.Types.{SlotState, Free, Enabled, Default, Addressed, Configured, Slot, Table, Answer, Outcome}
+use Rattle.commands.specs.Types.{SlotState, Free, Enabled, Default, Addressed, Configured, Slot, Table, Outcome}
 use Rattle.commands.specs.Promises.{tallied, Carries, Settles, Based, isSettled}
 
 -- ---- what a slot that was found has

@@ -1,17 +1,17 @@
 -- A call that reaches one endpoint, its slot being found: each way out.
 -- Assumes nothing.
-use mathlib.Core.Path.{_≡_, refl, sym, ap, _∙_}
-use mathlib.Core.Bool.{Bool, true, false, not, cond, _&&_}
-use Prim.Native.Nat.{ℕ, _+_, _*_, _%_, _≤_, _<_}
+use mathlib.Core.Path.{_≡_, _∙_}
+use mathlib.Core.Bool.{true, false, not, _&&_}
+use Prim.Native.Nat.{ℕ, _*_, _≤_, _<_}
 use native.Mathlib.Omega.{arith}
-use borrow.Author.Tests.{le-leb, lt-leb, eq-eqb}
+use borrow.Author.Tests.{le-leb, lt-leb}
 use lib.Dec.{leb}
 use lib.ListN.{length}
 use Rattle.guest.specs.Bytes.{_⊕_}
-use Rattle.guest.specs.Prog.{Mem, Prog, done, run, Ends, Result, ok, refuse, andThen}
+use Rattle.guest.specs.Prog.{Mem, Prog, done, Result, ok, andThen}
 use Rattle.guest.proofs.RunLaws.{choose-yes, choose-no, passes, refuses, run-done}
 use Rattle.definition.specs.Table.{isDisabled, endpointOf, slotOf, withEndpoint, wellFormed}
-use Rattle.definition.specs.Steps.{Stepped, step}
+use Rattle.definition.specs.Steps.{step}
 use Rattle.definition.specs.Commands.{Told, onEndpoint, stepped}
 use Rattle.definition.specs.Calls.{counted}
 use Rattle.definition.proofs.FormedFacts.{ok-enabled, formed-fits, fits-serve}
@@ -20,7 +20,7 @@ use Rattle.endpoint.specs.Promises.{valueOf, Ready, Takes}
 use Rattle.endpoint.proofs.PromiseLaws.{goes-on, is-refused}
 use Rattle.scan.specs.Heads.{refusal}
 use Rattle.scan.proofs.OpeningLaws.{refuses-at-once, refuses-with, meets-ok, meets-as}
-use Rattle.commands.specs.Types.{Endpoint, Slot, Table, Input, Outcome}
+use Rattle.commands.specs.Types.{Slot, Table, Input}
 use Rattle.commands.specs.Promises.{reaching, Settles}
 
 -- an enabled endpoint of a well formed table may take a step

@@ -1,18 +1,23 @@
 -- What the commands promise, and what their parts do.
 -- Assumes nothing.
 use mathlib.Core.Path.{_≡_}
-use mathlib.Core.Bool.{Bool}
+use mathlib.Core.Bool.{Bool, true, false}
 use lib.Dec.{leb}
-use Prim.Native.Nat.{ℕ, _+_, _*_, _≤_}
+use Prim.Native.Nat.{ℕ, _+_, _-_, _*_, _≤_}
 use lib.ListN.{length}
-use Rattle.guest.specs.Bytes.{_⊕_}
-use Rattle.guest.specs.Prog.{Mem, Prog, done, bind, Ends, Result, ok, andThen}
-use Rattle.commands.specs.Types.{Input, SlotState, Slot, Table, Answer, Outcome}
+use Rattle.guest.specs.Bytes.{_⊕_, setBits}
+use Rattle.guest.specs.Prog.{Mem, Prog, done, run, bind, Ends, Result, ok, andThen}
+use Rattle.commands.specs.Types.{Input, Endpoint, SlotState, Addressed, Slot, Table, Outcome}
 use Rattle.definition.specs.Table.{slotNumber, withEndpoint}
 use Rattle.definition.specs.Steps.{step}
-use Rattle.definition.specs.Commands.{Told, onEndpoint, stepped}
+use Rattle.definition.specs.Walks.{begin}
+use Rattle.definition.specs.Commands.{Told, onEndpoint, stepped, usbTypes, plan, settled, deconfigure, dropAndAdd, finish, reconfigure}
 use Rattle.definition.specs.Calls.{Call, counted, told, prog, Meets}
-use Rattle.walks.specs.Promises.{Rooms}
+use Rattle.walks.specs.Promises.{walk, Spaces}
+use Rattle.scan.specs.Heads.{refusal}
+use Rattle.commands.specs.declared.configure.Flags.{Flags}
+use Rattle.commands.specs.declared.configure.Plan.{Plan}
+use Rattle.commands.specs.declared.configure.Plan.the-variants.{Refused, Walk}
 use Rattle.commands.specs.declared.outcome.Tally.{Tally}
 
 -- success, with what was launched, terminated and stored
@@ -61,3 +66,25 @@ reaching absent id i input s t =
     onEndpoint absent t id i λ e.
     andThen (step e input (s .base ⊕ 32 * i)) λ r.
     done (ok (stepped r, withEndpoint t id i (r .endpoint)))
+
+-- ---- Configure Endpoint, its slot being found
+
+abbrev pub configuring : ℕ → ℕ → Slot → Bool → ℕ → Table → Prog (Result Told)
+configuring id P s true len t = settled (s .state) (deconfigure id s Addressed t)
+configuring id P s false len t = settled (s .state) (reconfigure usbTypes id P s len t)
+
+-- what is left of it where nothing is refused
+abbrev pub walking : ℕ → ℕ → Slot → Flags → Table → Prog (Result Told)
+walking id P s f t =
+    bind (dropAndAdd id P (s .base) (setBits 30 2 (f .drops)) (setBits 30 2 (f .adds)) (begin t)) (finish id s (f .next))
+
+-- the flags are the command's, for any id and table, and every range of the walk lies in memory
+pub record Walkable (P : ℕ) (s : Slot) (dc : Bool) (m : Mem) (f : Flags) : Type 0 where
+  pub runs : (id : ℕ) (t : Table) → run (configuring id P s dc (length m) t) m 0 ≡ run (walking id P s f t) m 0
+  pub spaces : Spaces P (s .base) (f .adds) (length m)
+  pub room : s .base + 64 ≤ length m
+
+-- a plan is the command's
+abbrev pub Plans : ℕ → Slot → Bool → Mem → Plan → Type 0
+Plans P s dc m (Refused c) = (id : ℕ) (t : Table) → Settles (configuring id P s dc (length m) t) t m (refusal t c) m
+Plans P s dc m (Walk f) = Walkable P s dc m f

@@ -1,10 +1,10 @@
 // Every call on a table that is malformed in one place: 198, whatever else is wrong. A heading has the record: its index and its fields.
-use crate::setting;
-use crate::show;
-use crate::sums;
 use definition::EndpointState;
 use definition::SlotState;
-use definition::Table;
+use tries::attempt;
+use tries::setting;
+use tries::show;
+use tries::sums;
 
 fn heading(at: usize, state: u64, a: u64, b: u64) {
     show::number(at as u64);
@@ -14,61 +14,52 @@ fn heading(at: usize, state: u64, a: u64, b: u64) {
     show::text(b"\n");
 }
 
-fn table(t: Table) {
-    crate::attempt::every(t, 4096, 1, 2);
-}
-
 fn slot(at: usize, state: SlotState, base: u64, entry: u64) {
     show::text(b"slot");
     heading(at, sums::slot_number(state), base, entry);
-    table(setting::with_slot(setting::table(), at, state, base, entry));
+    attempt::every(
+        setting::with_slot(setting::table(), at, state, base, entry),
+        4096,
+        1,
+        2,
+    );
 }
 
 fn endpoint(at: usize, state: EndpointState, cycle: bool, pointer: u64) {
     show::text(b"endpoint");
-    heading(at, sums::endpoint_number(state), sums::bit(cycle), pointer);
-    table(setting::with_endpoint(setting::table(), at, state, cycle, pointer));
+    heading(at, sums::endpoint_number(state), cycle as u64, pointer);
+    attempt::every(
+        setting::with_endpoint(setting::table(), at, state, cycle, pointer),
+        4096,
+        1,
+        2,
+    );
 }
 
-// A limit above 16; a length above 1,073,741,824, or so small that slot 16's contexts end outside.
-pub fn numbers() {
-    show::text(b"limits and lengths\n");
-    let t = setting::table();
-    table(setting::with_limit(t, 17));
-    table(setting::with_limit(t, 0xffff_ffff_ffff_ffff));
-    table(setting::with_length(t, 1073741825));
-    table(setting::with_length(t, 0xffff_ffff_ffff_ffff));
-    table(setting::with_length(t, 4095));
-}
-
-// A free slot that is not all zero.
-pub fn free() {
+// Slots without contexts.
+pub fn unused() {
+    // A free slot that is not all zero.
     slot(3, SlotState::Free, 1, 0);
     slot(3, SlotState::Free, 0, 1);
     slot(14, SlotState::Free, 0xffff_ffff_ffff_ffff, 0);
     endpoint(93, EndpointState::Waiting, false, 0);
     endpoint(93, EndpointState::Disabled, true, 0);
     endpoint(464, EndpointState::Disabled, false, 16);
-}
-
-// An Enabled slot with a base or an endpoint.
-pub fn enabled() {
+    // An Enabled slot with a base or an endpoint.
     slot(1, SlotState::Enabled, 1, 272);
     endpoint(31, EndpointState::Waiting, false, 0);
     endpoint(61, EndpointState::Stopped, false, 3072);
 }
 
-// A slot past Enabled whose 64 bytes lie outside.
-pub fn outside() {
+// Slots with contexts.
+pub fn used() {
+    // A slot past Enabled whose 64 bytes lie outside.
     slot(2, SlotState::Default, 4033, 280);
     slot(15, SlotState::Addressed, 4096, 384);
     slot(0, SlotState::Configured, 4033, 264);
     slot(2, SlotState::Default, 0xffff_ffff_ffff_ffe0, 280);
     slot(2, SlotState::Default, 0xffff_ffff_ffff_ffff, 280);
-}
-
-// A slot past Enabled without endpoint 1; an endpoint whose context lies outside.
-pub fn contexts() {
+    // A slot past Enabled without endpoint 1; an endpoint whose context lies outside.
     endpoint(62, EndpointState::Disabled, false, 0);
     endpoint(465, EndpointState::Disabled, false, 0);
     endpoint(0, EndpointState::Disabled, false, 0);

@@ -1,28 +1,28 @@
 // Pointers at the edges of memory: of an input context, a DCBAA entry, a device context, a transfer ring.
-use crate::attempt;
-use crate::calls::Call;
-use crate::calls::EndpointCall;
-use crate::calls::SlotCall;
-use crate::setting;
-use crate::setting::Guest;
+use calls::Try;
 use definition::SlotState;
+use tries::attempt;
+use tries::setting;
+use tries::setting::Guest;
 
 // ---- input contexts
 
-fn input(g: Guest, c: SlotCall, id: u64, pointer: u64, flag: bool) {
+fn input(g: Guest, call: usize, id: u64, pointer: u64, flag: bool) {
     attempt::call(
         setting::table(),
         g,
         4096,
-        Call::Slot(c),
-        id,
-        0,
-        pointer,
-        flag,
+        Try {
+            call,
+            id,
+            i: 0,
+            pointer,
+            flag,
+        },
     );
 }
 
-fn at(g: Guest, c: SlotCall, id: u64, flag: bool) {
+fn at(g: Guest, c: usize, id: u64, flag: bool) {
     input(g, c, id, 0, flag);
     input(g, c, id, 2048, flag);
     input(g, c, id, 4000, flag);
@@ -35,16 +35,21 @@ fn at(g: Guest, c: SlotCall, id: u64, flag: bool) {
 }
 
 // Each call with an input context, in each slot state.
-fn all(g: Guest) {
-    at(g, SlotCall::AddressDevice, 2, false);
-    at(g, SlotCall::AddressDevice, 2, true);
-    at(g, SlotCall::AddressDevice, 3, false);
-    at(g, SlotCall::AddressDevice, 3, true);
-    at(g, SlotCall::ConfigureEndpoint, 1, false);
-    at(g, SlotCall::ConfigureEndpoint, 1, true);
-    at(g, SlotCall::ConfigureEndpoint, 2, false);
-    at(g, SlotCall::ConfigureEndpoint, 16, false);
-    at(g, SlotCall::EvaluateContext, 2, false);
+fn all(flags: u64, kind: u64) {
+    let g = Guest {
+        base: 1536,
+        flags,
+        kind,
+    };
+    at(g, calls::ADDRESS_DEVICE, 2, false);
+    at(g, calls::ADDRESS_DEVICE, 2, true);
+    at(g, calls::ADDRESS_DEVICE, 3, false);
+    at(g, calls::ADDRESS_DEVICE, 3, true);
+    at(g, calls::CONFIGURE_ENDPOINT, 1, false);
+    at(g, calls::CONFIGURE_ENDPOINT, 1, true);
+    at(g, calls::CONFIGURE_ENDPOINT, 2, false);
+    at(g, calls::CONFIGURE_ENDPOINT, 16, false);
+    at(g, calls::EVALUATE_CONTEXT, 2, false);
 }
 
 // A type of endpoint 1, with its flag set.
@@ -54,13 +59,13 @@ fn kind(n: u64) {
         flags: 0x2_0000_0000,
         kind: n,
     };
-    input(g, SlotCall::AddressDevice, 2, 2048, false);
-    input(g, SlotCall::ConfigureEndpoint, 1, 2048, false);
-    input(g, SlotCall::EvaluateContext, 3, 2048, false);
+    input(g, calls::ADDRESS_DEVICE, 2, 2048, false);
+    input(g, calls::CONFIGURE_ENDPOINT, 1, 2048, false);
+    input(g, calls::EVALUATE_CONTEXT, 3, 2048, false);
 }
 
 fn kinds() {
-    crate::show::text(b"types\n");
+    tries::show::text(b"types\n");
     kind(0);
     kind(0x08_0000_0000);
     kind(0x10_0000_0000);
@@ -72,22 +77,12 @@ fn kinds() {
 }
 
 pub fn inputs() {
-    crate::show::text(b"no flags\n");
-    all(attempt::PLAIN);
-    let first = Guest {
-        base: 1536,
-        flags: 0x2_0000_0000,
-        kind: 0x20_0000_0000,
-    };
-    crate::show::text(b"first flag\n");
-    all(first);
-    let last = Guest {
-        base: 1536,
-        flags: 0x8000_0000_0000_0000,
-        kind: 0x20_0000_0000,
-    };
-    crate::show::text(b"last flag\n");
-    all(last);
+    tries::show::text(b"no flags\n");
+    all(0, 0);
+    tries::show::text(b"first flag\n");
+    all(0x2_0000_0000, 0x20_0000_0000);
+    tries::show::text(b"last flag\n");
+    all(0x8000_0000_0000_0000, 0x20_0000_0000);
     kinds();
 }
 
@@ -99,8 +94,8 @@ fn base(n: u64) {
         flags: 0,
         kind: 0,
     };
-    input(g, SlotCall::AddressDevice, 2, 2048, false);
-    input(g, SlotCall::AddressDevice, 2, 2048, true);
+    input(g, calls::ADDRESS_DEVICE, 2, 2048, false);
+    input(g, calls::ADDRESS_DEVICE, 2, 2048, true);
 }
 
 fn entry(n: u64) {
@@ -109,16 +104,18 @@ fn entry(n: u64) {
         t,
         attempt::PLAIN,
         4096,
-        Call::Slot(SlotCall::AddressDevice),
-        2,
-        0,
-        2048,
-        false,
+        Try {
+            call: calls::ADDRESS_DEVICE,
+            id: 2,
+            i: 0,
+            pointer: 2048,
+            flag: false,
+        },
     );
 }
 
 fn entries() {
-    crate::show::text(b"entries\n");
+    tries::show::text(b"entries\n");
     entry(0);
     entry(4032);
     entry(4033);
@@ -131,7 +128,7 @@ fn entries() {
 }
 
 pub fn bases() {
-    crate::show::text(b"bases\n");
+    tries::show::text(b"bases\n");
     base(0);
     base(4032);
     base(4033);
@@ -144,22 +141,18 @@ pub fn bases() {
 
 // ---- transfer rings
 
-fn ring(c: EndpointCall, i: u64, pointer: u64) {
-    attempt::plain(Call::Endpoint(c), 1, i, pointer);
-}
-
-fn places(c: EndpointCall, i: u64) {
-    ring(c, i, 0);
-    ring(c, i, 4032);
-    ring(c, i, 4033);
-    ring(c, i, 4096);
-    ring(c, i, 0xffff_ffff_ffff_fff0);
-    ring(c, i, 0xffff_ffff_ffff_fffc);
-    ring(c, i, 0xffff_ffff_ffff_ffe0);
+fn places(c: usize, i: u64) {
+    attempt::plain(c, 1, i, 0);
+    attempt::plain(c, 1, i, 4032);
+    attempt::plain(c, 1, i, 4033);
+    attempt::plain(c, 1, i, 4096);
+    attempt::plain(c, 1, i, 0xffff_ffff_ffff_fff0);
+    attempt::plain(c, 1, i, 0xffff_ffff_ffff_fffc);
+    attempt::plain(c, 1, i, 0xffff_ffff_ffff_ffe0);
 }
 
 // In each of the six resting states.
-fn states(c: EndpointCall) {
+fn states(c: usize) {
     places(c, 1);
     places(c, 2);
     places(c, 3);
@@ -169,10 +162,10 @@ fn states(c: EndpointCall) {
 }
 
 pub fn rings() {
-    crate::show::text(b"rings\n");
-    states(EndpointCall::SetDequeue);
-    states(EndpointCall::Doorbell);
-    states(EndpointCall::HostOk);
-    states(EndpointCall::HostStall);
-    states(EndpointCall::HostTransactionError);
+    tries::show::text(b"rings\n");
+    states(calls::SET_DEQUEUE);
+    states(calls::DOORBELL);
+    states(calls::HOST_OK);
+    states(calls::HOST_STALL);
+    states(calls::HOST_TRANSACTION_ERROR);
 }

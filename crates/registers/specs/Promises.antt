@@ -1,13 +1,14 @@
 -- What the calls that are lent no memory promise.
 -- Assumes nothing.
 use mathlib.Core.List.{List, [], _∷_}
-use Prim.Native.Nat.{ℕ}
-use lib.ListN.{length}
+use Prim.Native.Nat.{ℕ, _-_}
+use lib.ListN.{length, getD}
 use Rattle.guest.specs.Bytes.{count, those}
 use Rattle.guest.specs.Prog.{Mem}
+use Rattle.definition.specs.declared.Slot.{Slot}
 use Rattle.definition.specs.declared.Table.{Table}
 use Rattle.definition.specs.declared.Outcome.{Outcome}
-use Rattle.definition.specs.Table.{isFree, slotOf}
+use Rattle.definition.specs.Table.{isFree, free}
 use Rattle.definition.specs.Calls.{Call, prog, Meets}
 
 -- the call was answered, whatever the memory, which it leaves as it is
@@ -20,5 +21,5 @@ firstOf [] = 0
 firstOf (id ∷ ids) = id
 
 -- the smallest free id from 1 to the limit, or 0
-unfoldable pub firstFree : Table → ℕ
-firstFree t = firstOf (those (λ id. isFree (slotOf t id)) (count (t .limit) 1))
+unfoldable pub firstFree : List Slot → ℕ → ℕ
+firstFree slots limit = firstOf (those (λ id. isFree (getD slots (id - 1) free)) (count limit 1))

@@ -102,15 +102,14 @@ pub fn set_dcbaap(t: Table, dcbaap: u64) -> Outcome
 }
 
 // The smallest free id from 1 to the limit; 0 where there is none.
-fn first_free(t: Table) -> u64
-    requires { ⌜ t .limit ≤ 16 ⌝ }
-    ensures { λ r. ⌜ (r ≡ firstFree t) × (r ≤ 16) ⌝ }
+fn first_free(slots: [Slot; 16], limit: u64) -> u64
+    requires { ⌜ limit ≤ 16 ⌝ }
+    ensures { λ r. ⌜ (r ≡ firstFree slots limit) × (r ≤ 16) ⌝ }
 {
-    let limit = t.limit;
     let mut id: u64 = 1;
     while id <= limit {
         let j = (id - 1) as usize;
-        let slot = t.slots[j];
+        let slot = slots[j];
         let state = slot.state;
         if scan::is_free(state) {
             return id;
@@ -125,20 +124,27 @@ pub fn enable_slot(t: Table) -> Outcome
     requires { ⌜ wellFormed t ≡ true ⌝ }
     ensures { λ r. ⌜ AnswersAlone enableSlot t r ⌝ }
 {
-    let id = first_free(t);
+    let mut slots = t.slots;
+    let id = first_free(slots, t.limit);
     if id == 0 {
         return scan::refused(t, 9);
     }
     let entry = guest::address::plus(t.dcbaap, 8 * id);
-    let mut u = t;
     let j = (id - 1) as usize;
-    u.slots[j] = Slot {
+    slots[j] = Slot {
         state: SlotState::Enabled,
         base: 0,
         entry,
     };
+    let endpoints = t.endpoints;
     Outcome {
-        table: u,
+        table: Table {
+            limit: t.limit,
+            length: t.length,
+            dcbaap: t.dcbaap,
+            slots,
+            endpoints,
+        },
         answer: Answer {
             code: 1,
             slot: id,

@@ -2,7 +2,7 @@
 -- numbers, the head of a call.
 -- Assumes nothing.
 use mathlib.Core.Path.{_≡_, refl, sym, ap, _∙_}
-use mathlib.Core.Bool.{Bool, true, false, not, cond, _&&_}
+use mathlib.Core.Bool.{Bool, true, false, not, _&&_, _||_}
 use Prim.Native.Nat.{ℕ, _+_, _-_, _*_, _≤_, _<_}
 use native.Mathlib.Nat.{add-zero}
 use native.Mathlib.Omega.{arith}
@@ -15,7 +15,7 @@ use Rattle.guest.specs.Prog.{all}
 use Rattle.guest.proofs.LoopLaws.{Testing, testing-begins, testing-goes, testing-ends, testing-fails}
 use Rattle.guest.proofs.ListLaws.{count-none, count-first}
 use Rattle.guest.proofs.RunLaws.{is-inside, is-outside}
-use Rattle.definition.specs.Table.{endpointNumber, isDisabled, disabled, endpointOf, slotOf, isZero, usedOk, noEndpoint, slotOkIn, slotOk, wellFormed, lookup}
+use Rattle.definition.specs.Table.{endpointNumber, disabled, endpointOf, slotOf, isZero, usedOk, noEndpoint, slotOkIn, slotOk, wellFormed, lookup}
 use Rattle.scan.specs.Types.{Endpoint, SlotState, Free, Enabled, Default, Addressed, Configured, Slot, Table, Lookup, Nothing}
 use Rattle.scan.specs.Records.{hasContexts, inUse, ownIn, ownOk, recordOk, clear}
 use Rattle.scan.specs.Heads.{codeFor, headFor, foundIn}
@@ -48,19 +48,36 @@ swap true false true y = refl
 swap true false false y = refl
 swap false b x y = refl
 
--- faults joined to those found so far
-clear-or : (a b x y : ℕ) → clear (bitOr a x) (bitOr b y) ≡ (clear a b && clear x y)
-clear-or a b x y = rw (or-zero a x, or-zero b y) (swap (eqb a 0) (eqb b 0) (eqb x 0) (eqb y 0))
+not-or : (c d : Bool) → not (c || d) ≡ (not c && not d)
+not-or true d = refl
+not-or false d = refl
 
--- a record's state and cycle as numbers, and its pointer
-pub clear-record : (e : Endpoint) {n b : ℕ} → n ≡ endpointNumber (e .state) → b ≡ cond (e .cycle) 1 0 → clear (bitOr n b) (e .pointer) ≡ isZero e
-unfolding isZero
-clear-record e {n} {b} p q =
-    rw (or-zero n b, p, q) (ap (λ (x : Bool). (isDisabled e && x) && eqb (e .pointer) 0) (by (e .cycle)))
+-- faults joined to those found so far
+clear-or : (a : ℕ) (c : Bool) (b x : ℕ) (d : Bool) (y : ℕ) → clear (bitOr a x) (c || d) (bitOr b y) ≡ (clear a c b && clear x d y)
+clear-or a c b x d y =
+    rw (or-zero a x, or-zero b y, not-or c d)
+    (ap (λ (q : Bool). q && (eqb b 0 && eqb y 0)) (swap (eqb a 0) (not c) (eqb x 0) (not d))
+    ∙ swap (eqb a 0 && not c) (eqb b 0) (eqb x 0 && not d) (eqb y 0))
+
+-- a cycle that is set; else the numbers decide
+pub clear-set : (a b : ℕ) {c : Bool} → c ≡ true → clear a c b ≡ false
+clear-set a b e = rw e (by (eqb a 0))
   where
-    by : (cycle : Bool) → eqb (cond cycle 1 0) 0 ≡ not cycle
+    by : (q : Bool) → (q && false && eqb b 0) ≡ false
     by true = refl
     by false = refl
+
+pub clear-rest : (a b : ℕ) {c : Bool} → c ≡ false → clear a c b ≡ eqb (bitOr a b) 0
+clear-rest a b e = rw (e, or-zero a b) (by (eqb a 0))
+  where
+    by : (q : Bool) → (q && true && eqb b 0) ≡ (q && eqb b 0)
+    by true = refl
+    by false = refl
+
+-- a record's state as a number, its cycle and its pointer
+pub clear-record : (e : Endpoint) {n : ℕ} → n ≡ endpointNumber (e .state) → clear n (e .cycle) (e .pointer) ≡ isZero e
+unfolding isZero
+clear-record e p = rw p
 
 -- ---- a loop of tests
 
@@ -84,8 +101,9 @@ pub scan-fails : (f : ℕ → Bool) {end i : ℕ} → Scan f end i true → i < 
 scan-fails f {end} {i} s h e = testing-fails f (s .tests) (count-first end i h) e
 
 -- a turn whose faults are joined to those found so far
-pub scan-gathers : (f : ℕ → Bool) {end i : ℕ} (a b x y : ℕ) → Scan f end i (clear a b) → i < end → clear x y ≡ f i → Scan f end (i + 1) (clear (bitOr a x) (bitOr b y))
-scan-gathers f a b x y s h e = scan-goes f s h _ (clear-or a b x y ∙ ap (λ (q : Bool). clear a b && q) e)
+pub scan-gathers : (f : ℕ → Bool) {end i : ℕ} (a : ℕ) (c : Bool) (b x : ℕ) (d : Bool) (y : ℕ) → Scan f end i (clear a c b) → i < end → clear x d y ≡ f i
+    → Scan f end (i + 1) (clear (bitOr a x) (c || d) (bitOr b y))
+scan-gathers f a c b x d y s h e = scan-goes f s h _ (clear-or a c b x d y ∙ ap (λ (q : Bool). clear a c b && q) e)
 
 -- ---- one slot
 
@@ -117,11 +135,11 @@ unfolding ownOk slotOk
 slot-bad t id h = sym (slot-in (slotOf t id .state) (slotOf t id) t id) ∙ rw (first-is t id, h)
 
 -- it passes: the faults gathered from the records decide
-pub slot-is : (t : Table) (id : ℕ) {contexts : Bool} {i : ℕ} (a b : ℕ) → contexts ≡ hasContexts (slotOf t id .state) → ownOk (slotOf t id) (firstOf t id) (t .length) ≡ true
-    → Scan (testOf contexts (t .length) (slotOf t id .base) t id) 32 i (clear a b) → 32 ≤ i → slotOk t id ≡ eqb (bitOr a b) 0
+pub slot-is : (t : Table) (id : ℕ) {contexts : Bool} {i : ℕ} (a : ℕ) (c : Bool) (b : ℕ) → contexts ≡ hasContexts (slotOf t id .state) → ownOk (slotOf t id) (firstOf t id) (t .length) ≡ true
+    → Scan (testOf contexts (t .length) (slotOf t id .base) t id) 32 i (clear a c b) → 32 ≤ i → slotOk t id ≡ clear a c b
 unfolding ownOk slotOk
-slot-is t id a b u h s l =
-    sym (slot-in (slotOf t id .state) (slotOf t id) t id) ∙ rw (first-is t id, h) (sym (or-zero a b ∙ scan-ends _ s l ∙ rw u))
+slot-is t id a c b u h s l =
+    sym (slot-in (slotOf t id .state) (slotOf t id) t id) ∙ rw (first-is t id, h) (sym (scan-ends _ s l ∙ rw u))
 
 -- ---- the table
 

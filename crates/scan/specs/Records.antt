@@ -30,6 +30,6 @@ ownOk s first len = ownIn (s .state) s first len
 unfoldable pub recordOk : Bool → ℕ → ℕ → ℕ → Endpoint → Bool
 recordOk contexts len base i e = cond contexts (endpointOk len base i e) (isZero e)
 
--- two numbers in which nothing is wrong
-abbrev pub clear : ℕ → ℕ → Bool
-clear flags pointer = eqb flags 0 && eqb pointer 0
+-- faults in which nothing is wrong
+abbrev pub clear : ℕ → Bool → ℕ → Bool
+clear flags cycle pointer = eqb flags 0 && not cycle && eqb pointer 0

@@ -43,6 +43,7 @@ pub fn well_formed(t: Table) -> bool
         let used = records::has_contexts(state);
         let base = slot.base;
         let mut flags: u64 = 0;
+        let mut cycles = false;
         let mut pointers: u64 = 0;
         let mut i: u64 = 1;
         while i < 32 {
@@ -50,8 +51,12 @@ pub fn well_formed(t: Table) -> bool
             let e = t.endpoints[k];
             let wrong = records::faults_of(used, length, base, i, e);
             flags = flags | wrong.flags;
+            cycles = cycles | wrong.cycle;
             pointers = pointers | wrong.pointer;
             i += 1;
+        }
+        if cycles {
+            return false;
         }
         if flags | pointers != 0 {
             return false;

@@ -4,15 +4,15 @@ use definition::EndpointState;
 use definition::Slot;
 use definition::SlotState;
 ghost use mathlib.Core.Path.{_≡_};
-ghost use mathlib.Core.Bool.{cond};
 ghost use Prim.Native.Nat.{_≤_};
 ghost use Rattle.guest.specs.Bytes as bytes;
 ghost use Rattle.definition.specs.Table.{slotNumber, endpointNumber, isZero};
 ghost use Rattle.scan.specs.Records.{hasContexts, ownOk, inUse, recordOk, clear};
 
-// What is wrong with an endpoint's record: both numbers are 0 where nothing is.
+// What is wrong with an endpoint's record: all are 0 or false where nothing is.
 pub struct Faults {
     pub flags: u64,
+    pub cycle: bool,
     pub pointer: u64,
 }
 
@@ -49,13 +49,6 @@ fn endpoint_number(state: EndpointState) -> u64
         EndpointState::StoppedContinuable => 5,
         EndpointState::Stopped => 6,
     }
-}
-
-// A cycle as a number.
-fn bit(cycle: bool) -> u64
-    ensures { λ r. ⌜ r ≡ cond cycle 1 0 ⌝ }
-{
-    if cycle { 1 } else { 0 }
 }
 
 // The `count` bytes at an address lie wholly in a memory of this length.
@@ -101,11 +94,12 @@ pub fn slot_ok(slot: Slot, first: Endpoint, length: u64) -> bool
 
 // A record that has to be all zero: whatever is not is a fault.
 fn nonzero(e: Endpoint) -> Faults
-    ensures { λ r. ⌜ clear (r .flags) (r .pointer) ≡ isZero e ⌝ }
+    ensures { λ r. ⌜ clear (r .flags) (r .cycle) (r .pointer) ≡ isZero e ⌝ }
 {
     let state = e.state;
     Faults {
-        flags: endpoint_number(state) | bit(e.cycle),
+        flags: endpoint_number(state),
+        cycle: e.cycle,
         pointer: e.pointer,
     }
 }
@@ -113,7 +107,7 @@ fn nonzero(e: Endpoint) -> Faults
 // The record of endpoint i, in a slot that has contexts or has none.
 pub fn faults_of(contexts: bool, length: u64, base: u64, i: u64, e: Endpoint) -> Faults
     requires { ⌜ i ≤ 31 ⌝ }
-    ensures { λ r. ⌜ clear (r .flags) (r .pointer) ≡ recordOk contexts length base i e ⌝ }
+    ensures { λ r. ⌜ clear (r .flags) (r .cycle) (r .pointer) ≡ recordOk contexts length base i e ⌝ }
 {
     if !contexts {
         return nonzero(e);
@@ -126,11 +120,13 @@ pub fn faults_of(contexts: bool, length: u64, base: u64, i: u64, e: Endpoint) ->
     if inside(length, at, 32) {
         return Faults {
             flags: 0,
+            cycle: false,
             pointer: e.pointer % 16,
         };
     }
     Faults {
         flags: 1,
+        cycle: false,
         pointer: 0,
     }
 }

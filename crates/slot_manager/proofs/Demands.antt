@@ -24,7 +24,8 @@ use Rattle.definition.proofs.DemandLaws as demands
 use Rattle.definition.proofs.IsolationLaws.{slotIn, Isolated, isolation}
 use Rattle.scan.specs.Heads.{refusal}
 use Rattle.commands.specs.Promises.{Answers}
-use Rattle.slot_manager.specs.Promises.{Ready, Runs, ended, called, stored, Alike}
+use Rattle.formed.specs.Promises.{Ready}
+use Rattle.slot_manager.specs.Promises.{Runs, ended, called, stored, Alike}
 
 -- ---- one call
 

@@ -1,7 +1,6 @@
--- What the calls that do not scan the table ask, and what the contracts together say of a sequence of calls.
+-- What the contracts together say of a sequence of calls.
 -- Assumes nothing.
 use mathlib.Core.Path.{_≡_}
-use mathlib.Core.Bool.{true}
 use mathlib.Core.List.{List, [], _∷_}
 use Prim.Native.Nat.{ℕ}
 use lib.ListN.{length, getD}
@@ -10,14 +9,8 @@ use Rattle.guest.specs.Trace.{Event, call, store, Wrote}
 use Rattle.definition.specs.declared.Table.{Table}
 use Rattle.definition.specs.declared.Answer.{Answer}
 use Rattle.definition.specs.declared.Outcome.{Outcome}
-use Rattle.definition.specs.Table.{wellFormed}
 use Rattle.definition.specs.Calls.{Call, prog, counted}
 use Rattle.commands.specs.Promises.{Answers}
-
--- a well formed table, for a memory of this one's length
-pub record Ready (t : Table) (m : Mem) : Type 0 where
-  pub formed : wellFormed t ≡ true
-  pub size : t .length ≡ length m
 
 -- a sequence of calls and guest stores, begun with table t and memory m, has given these answers and left this table and memory: each call an outcome
 -- and a memory that its contract allows

@@ -1,7 +1,5 @@
 // The slot manager's calls. None asks anything of its caller: whatever the numbers, the table and the memory, the outcome and every byte of memory
 // are what the definition's program for the call gives. 198 comes first, then 194, then 11.
-pub mod formed;
-
 use definition::Dequeue;
 use definition::Given;
 use definition::Input;
@@ -10,9 +8,11 @@ use definition::Lookup;
 use definition::Outcome;
 use definition::Table;
 ghost use mathlib.Core.Path.{_≡_};
+ghost use lib.ListN.{length};
+ghost use Rattle.definition.specs.Commands.{endpointCall};
 ghost use Rattle.definition.specs.Calls.{setLimit, setDcbaap, enableSlot, resetAll, disableSlot, addressDevice, configureEndpoint, evaluateContext, resetDevice, stopEndpoint, resetEndpoint, setDequeue, doorbell, hostOk, hostStall, hostTransactionError, hostTrbError, made};
 ghost use Rattle.registers.specs.Promises.{AnswersAlone};
-ghost use Rattle.commands.specs.Promises.{Answers};
+ghost use Rattle.commands.specs.Promises.{Answers, Settles};
 
 // ---- the table and its registers
 
@@ -93,7 +93,7 @@ pub fn address_device(t: Table, mem: &mut [u8], id: u64, pointer: u64, bsr: bool
     let Lookup::Used(slot) = found else {
         return scan::refused(t, 11);
     };
-    commands::address::address_device(t, mem, id, slot, pointer, bsr)
+    addressing::address_device(t, mem, id, slot, pointer, bsr)
 }
 
 // Configure Endpoint (xHCI 4.6.6).
@@ -143,9 +143,17 @@ pub fn reset_device(t: Table, mem: &mut [u8], id: u64) -> Outcome
 
 // ---- calls that reach one endpoint
 
-// Stop Endpoint (xHCI 4.6.9).
-pub fn stop_endpoint(t: Table, mem: &mut [u8], id: u64, i: u64) -> Outcome
-    ensures { λ r. ⌜ Answers (stopEndpoint id i) t (now (mem .entry)) r (now (mem .exit)) ⌝ }
+// Endpoint i of slot id takes the input. `slotless` and `absent` are the codes where there is no such slot or endpoint.
+fn reach(
+    t: Table,
+    mem: &mut [u8],
+    id: u64,
+    i: u64,
+    input: Input,
+    slotless: u64,
+    absent: u64,
+) -> Outcome
+    ensures { λ r. ⌜ Settles (endpointCall slotless absent id i input (length (now (mem .entry))) t) t (now (mem .entry)) r (now (mem .exit)) ⌝ }
 {
     let head = scan::opens(t, mem.len() as u64, id);
     if head.code != 0 {
@@ -153,112 +161,63 @@ pub fn stop_endpoint(t: Table, mem: &mut [u8], id: u64, i: u64) -> Outcome
     }
     let found = head.found;
     let Lookup::Used(slot) = found else {
-        return scan::refused(t, 11);
+        return scan::refused(t, slotless);
     };
-    commands::reach::reach(t, mem, id, slot, i, Input::Stop, 12)
+    commands::reach::reach(t, mem, id, slot, i, input, absent)
+}
+
+// Stop Endpoint (xHCI 4.6.9).
+pub fn stop_endpoint(t: Table, mem: &mut [u8], id: u64, i: u64) -> Outcome
+    ensures { λ r. ⌜ Answers (stopEndpoint id i) t (now (mem .entry)) r (now (mem .exit)) ⌝ }
+{
+    reach(t, mem, id, i, Input::Stop, 11, 12)
 }
 
 // Reset Endpoint (xHCI 4.6.8).
 pub fn reset_endpoint(t: Table, mem: &mut [u8], id: u64, i: u64) -> Outcome
     ensures { λ r. ⌜ Answers (resetEndpoint id i) t (now (mem .entry)) r (now (mem .exit)) ⌝ }
 {
-    let head = scan::opens(t, mem.len() as u64, id);
-    if head.code != 0 {
-        return scan::refused(t, head.code);
-    }
-    let found = head.found;
-    let Lookup::Used(slot) = found else {
-        return scan::refused(t, 11);
-    };
-    commands::reach::reach(t, mem, id, slot, i, Input::Reset, 12)
+    reach(t, mem, id, i, Input::Reset, 11, 12)
 }
 
 // Set TR Dequeue Pointer (xHCI 4.6.10).
 pub fn set_dequeue(t: Table, mem: &mut [u8], id: u64, i: u64, place: Dequeue) -> Outcome
     ensures { λ r. ⌜ Answers (setDequeue id i place) t (now (mem .entry)) r (now (mem .exit)) ⌝ }
 {
-    let head = scan::opens(t, mem.len() as u64, id);
-    if head.code != 0 {
-        return scan::refused(t, head.code);
-    }
-    let found = head.found;
-    let Lookup::Used(slot) = found else {
-        return scan::refused(t, 11);
-    };
-    commands::reach::reach(t, mem, id, slot, i, Input::SetDequeue(place), 12)
+    reach(t, mem, id, i, Input::SetDequeue(place), 11, 12)
 }
 
 // A doorbell, with what the look at the ring reports (xHCI 4.7).
 pub fn doorbell(t: Table, mem: &mut [u8], id: u64, i: u64, look: Look) -> Outcome
     ensures { λ r. ⌜ Answers (doorbell id i look) t (now (mem .entry)) r (now (mem .exit)) ⌝ }
 {
-    let head = scan::opens(t, mem.len() as u64, id);
-    if head.code != 0 {
-        return scan::refused(t, head.code);
-    }
-    let found = head.found;
-    let Lookup::Used(slot) = found else {
-        return scan::refused(t, 11);
-    };
-    commands::reach::reach(t, mem, id, slot, i, Input::Doorbell(look), 12)
+    reach(t, mem, id, i, Input::Doorbell(look), 11, 12)
 }
 
 // The host has finished the transfer; with what the next look at the ring reports.
 pub fn host_ok(t: Table, mem: &mut [u8], id: u64, i: u64, look: Look) -> Outcome
     ensures { λ r. ⌜ Answers (hostOk id i look) t (now (mem .entry)) r (now (mem .exit)) ⌝ }
 {
-    let head = scan::opens(t, mem.len() as u64, id);
-    if head.code != 0 {
-        return scan::refused(t, head.code);
-    }
-    let found = head.found;
-    let Lookup::Used(slot) = found else {
-        return scan::refused(t, 196);
-    };
-    commands::reach::reach(t, mem, id, slot, i, Input::Ok(look), 196)
+    reach(t, mem, id, i, Input::Ok(look), 196, 196)
 }
 
 // The device has stalled.
 pub fn host_stall(t: Table, mem: &mut [u8], id: u64, i: u64, given: Given) -> Outcome
     ensures { λ r. ⌜ Answers (hostStall id i given) t (now (mem .entry)) r (now (mem .exit)) ⌝ }
 {
-    let head = scan::opens(t, mem.len() as u64, id);
-    if head.code != 0 {
-        return scan::refused(t, head.code);
-    }
-    let found = head.found;
-    let Lookup::Used(slot) = found else {
-        return scan::refused(t, 196);
-    };
-    commands::reach::reach(t, mem, id, slot, i, Input::Stall(given), 196)
+    reach(t, mem, id, i, Input::Stall(given), 196, 196)
 }
 
 // The transfer has failed on the bus.
 pub fn host_transaction_error(t: Table, mem: &mut [u8], id: u64, i: u64, given: Given) -> Outcome
     ensures { λ r. ⌜ Answers (hostTransactionError id i given) t (now (mem .entry)) r (now (mem .exit)) ⌝ }
 {
-    let head = scan::opens(t, mem.len() as u64, id);
-    if head.code != 0 {
-        return scan::refused(t, head.code);
-    }
-    let found = head.found;
-    let Lookup::Used(slot) = found else {
-        return scan::refused(t, 196);
-    };
-    commands::reach::reach(t, mem, id, slot, i, Input::TransactionError(given), 196)
+    reach(t, mem, id, i, Input::TransactionError(given), 196, 196)
 }
 
 // The TRB is in error.
 pub fn host_trb_error(t: Table, mem: &mut [u8], id: u64, i: u64) -> Outcome
     ensures { λ r. ⌜ Answers (hostTrbError id i) t (now (mem .entry)) r (now (mem .exit)) ⌝ }
 {
-    let head = scan::opens(t, mem.len() as u64, id);
-    if head.code != 0 {
-        return scan::refused(t, head.code);
-    }
-    let found = head.found;
-    let Lookup::Used(slot) = found else {
-        return scan::refused(t, 196);
-    };
-    commands::reach::reach(t, mem, id, slot, i, Input::TrbError, 196)
+    reach(t, mem, id, i, Input::TrbError, 196, 196)
 }

@@ -21,17 +21,14 @@ loop-holds c = search needs
 add-turn : tie.Need-add-turn Inv-loop μ-loop
 add-turn c = search needs
 
-plus-requires : tie.Need-plus-requires Inv-loop μ-loop
-plus-requires c κs = search needs
-
 doorbell-requires : tie.Need-doorbell-requires Inv-loop μ-loop
 doorbell-requires c κs = search needs
 
 stop-endpoint-requires : tie.Need-stop-endpoint-requires Inv-loop μ-loop
 stop-endpoint-requires c κs = search needs
 
-plus-requires-2 : tie.Need-plus-requires-2 Inv-loop μ-loop
-plus-requires-2 c κs = search needs
+plus-requires : tie.Need-plus-requires Inv-loop μ-loop
+plus-requires c κs = search needs
 
 loop-less : tie.Need-loop-less Inv-loop μ-loop
 loop-less c = search needs
@@ -57,10 +54,9 @@ bench-doorbell-stop-spec =
     life-requires
     loop-holds
     add-turn
-    plus-requires
     doorbell-requires
     stop-endpoint-requires
-    plus-requires-2
+    plus-requires
     loop-less
     loop-again
     summed-requires

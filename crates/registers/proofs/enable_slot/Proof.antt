@@ -8,7 +8,7 @@ use Rattle.registers.proofs.enable_slot.Statement.{statement}
 use Rattle.registers.proofs.enable_slot.Tie as tie
 
 first-free-requires : tie.Need-first-free-requires
-first-free-requires c κs = formed-limit (c .args .t) (c .pre)
+first-free-requires c κs = formed-limit (c .before .args .t) (c .before .pre)
 
 refused-requires : tie.Need-refused-requires
 refused-requires c κs = search needs
@@ -16,7 +16,7 @@ refused-requires c κs = search needs
 returns : tie.Need-returns
 returns c =
     let b = c .before .before in
-    rw (c .refused .ensures) (none-free (b .before .args .t) (b .before .pre) (sym (b .first-free .ensures .0) ∙ c .before .if1 .taken))
+    rw (c .refused .ensures) (none-free (b .before .before .args .t) (b .before .before .pre) (sym (b .first-free .ensures .0) ∙ c .before .if1 .taken))
 
 mul-plus : tie.Need-mul-plus
 mul-plus c = search needs
@@ -27,17 +27,17 @@ plus-requires c κs = search needs
 sub-j : tie.Need-sub-j
 sub-j c = search needs
 
-mul-t10 : tie.Need-mul-t10
-mul-t10 c = search needs
+mul-slots : tie.Need-mul-slots
+mul-slots c = search needs
 
-element-set-from-u : tie.Need-element-set-from-u
-element-set-from-u c = search needs
+array-set-from-slots : tie.Need-array-set-from-slots
+array-set-from-slots c = search needs
 
 returns-2 : tie.Need-returns-2
 unfolding withSlot
 returns-2 c =
-    let b = c .before .before in
-    rw (c .plus .ensures) (enabled (b .before .args .t) (b .before .pre) (b .first-free .result) (b .first-free .ensures .0) (c .before .if1 .left))
+    let b = c .before .before .before in
+    rw (c .before .plus .ensures) (enabled (b .before .before .args .t) (b .before .before .pre) (b .first-free .result) (b .first-free .ensures .0) (c .before .before .if1 .left))
 
 pub enable-slot-spec : {M : Type 1} → statement M
 enable-slot-spec =
@@ -49,6 +49,6 @@ enable-slot-spec =
     mul-plus
     plus-requires
     sub-j
-    mul-t10
-    element-set-from-u
+    mul-slots
+    array-set-from-slots
     returns-2)

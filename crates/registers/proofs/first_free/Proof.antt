@@ -3,19 +3,18 @@ use mathlib.Core.Path.{sym, _∙_}
 use Prim.Native.Nat.{_+_, _-_}
 use native.Mathlib.Omega.{arith}
 use borrow.Author.Needs.{needs}
-use Rattle.definition.specs.Table.{slotOf}
 use Rattle.registers.proofs.RegisterLaws.{Sought, sought-begins, sought-found, sought-next, sought-none}
 use Rattle.registers.proofs.first_free.Statement.{statement}
 use Rattle.registers.proofs.first_free.Tie as tie
 
 abbrev Inv-loop : tie.InvT-loop
-Inv-loop t limit id₀ id = Sought t id
+Inv-loop limit slots id₀ id = Sought slots limit id
 
 abbrev μ-loop : tie.MeasureT-loop
-μ-loop t limit id₀ id = limit + 1 - id
+μ-loop limit slots id₀ id = limit + 1 - id
 
 loop-holds : tie.Need-loop-holds Inv-loop μ-loop
-loop-holds c = sought-begins (c .args .t1)
+loop-holds c = sought-begins _ _
 
 sub-j : tie.Need-sub-j Inv-loop μ-loop
 sub-j c = search needs
@@ -23,14 +22,13 @@ sub-j c = search needs
 mul-slot : tie.Need-mul-slot Inv-loop μ-loop
 mul-slot c = search needs
 
-element-copy-out-slot : tie.Need-element-copy-out-slot Inv-loop μ-loop
-element-copy-out-slot c = search needs
+array-copy-out-slot : tie.Need-array-copy-out-slot Inv-loop μ-loop
+array-copy-out-slot c = search needs
 
 is-free-requires : tie.Need-is-free-requires Inv-loop μ-loop
 is-free-requires c κs = search needs
 
 returns : tie.Need-returns Inv-loop μ-loop
-unfolding slotOf
 returns c =
     let b = c .before .before in
     let l = b .before .before in
@@ -43,7 +41,6 @@ loop-less : tie.Need-loop-less Inv-loop μ-loop
 loop-less c = search needs
 
 loop-again : tie.Need-loop-again Inv-loop μ-loop
-unfolding slotOf
 loop-again c =
     let b = c .before .before in
     let l = b .before .before in
@@ -61,7 +58,7 @@ first-free-spec =
     loop-holds
     sub-j
     mul-slot
-    element-copy-out-slot
+    array-copy-out-slot
     is-free-requires
     returns
     add-id

@@ -8,15 +8,15 @@ use borrow.Author.Needs.{needs}
 use borrow.Author.Tests.{not-true, not-false, eq-eqb, ne-eqb}
 use Rattle.definition.specs.Table.{endpointOf, slotOf, slotOk}
 use Rattle.scan.specs.Records.{clear}
-use Rattle.scan.proofs.ScanLaws.{scan-gathers, testOf, slot-bad, slot-is, Scan, scan-begins, scan-goes, scan-ends, scan-fails, over-limit, over-length, slots-decide}
+use Rattle.scan.proofs.ScanLaws.{scan-gathers, clear-set, clear-rest, testOf, slot-bad, slot-is, Scan, scan-begins, scan-goes, scan-ends, scan-fails, over-limit, over-length, slots-decide}
 use Rattle.scan.proofs.well_formed.Statement.{statement}
 use Rattle.scan.proofs.well_formed.Tie as tie
 
 abbrev Inv-loop2 : tie.InvT-loop2
-Inv-loop2 t length id j at used base flags₀ pointers₀ i₀ flags pointers i = Scan (testOf used length base t id) 32 i (clear flags pointers)
+Inv-loop2 t length id j at used base flags₀ cycles₀ pointers₀ i₀ flags cycles pointers i = Scan (testOf used length base t id) 32 i (clear flags cycles pointers)
 
 abbrev μ-loop2 : tie.MeasureT-loop2
-μ-loop2 t length id j at used base flags₀ pointers₀ i₀ flags pointers i = 32 - i
+μ-loop2 t length id j at used base flags₀ cycles₀ pointers₀ i₀ flags cycles pointers i = 32 - i
 
 abbrev Inv-loop : tie.InvT-loop
 Inv-loop t length id₀ id = Scan (slotOk t) 17 id true
@@ -102,10 +102,10 @@ loop2-less c = search needs
 loop2-again : tie.Need-loop2-again Inv-loop2 μ-loop2 Inv-loop μ-loop
 unfolding endpointOf
 loop2-again c =
-    let w = c .before .before in
+    let w = c .before .before .before in
     let g = w .before .before .before in
-    scan-gathers _ (g .loop2 .flags) (g .loop2 .pointers) (w .faults-of .result .flags) (w .faults-of .result .pointer)
-    (g .loop2 .inv) (w .before .before .loop2-test .taken) (w .faults-of .ensures)
+    let f = w .faults-of .result in
+    scan-gathers _ (g .loop2 .flags) (g .loop2 .cycles) (g .loop2 .pointers) (f .flags) (f .cycle) (f .pointer) (g .loop2 .inv) (w .before .before .loop2-test .taken) (w .faults-of .ensures)
 
 returns-4 : tie.Need-returns-4 Inv-loop2 μ-loop2 Inv-loop μ-loop
 unfolding slotOf
@@ -116,8 +116,21 @@ returns-4 c =
     let t = l .before .before .before .args .t1 in
     slots-decide t (l .before .before .if1 .left) (l .before .if2 .left)
     (scan-fails (slotOk t) (l .loop .inv) (omega arith)
-    (slot-is t (l .loop .id) (g .loop2 .flags) (g .loop2 .pointers) (g .before .has-contexts .ensures) (sym (o .slot-ok .ensures) ∙ not-false (o .slot-ok .result) (g .before .before .if3 .left)) (g .loop2 .inv) (c .before .loop2-test .left)
-    ∙ ne-eqb _ _ (c .if4 .taken)))
+    (slot-is t (l .loop .id) (g .loop2 .flags) (g .loop2 .cycles) (g .loop2 .pointers) (g .before .has-contexts .ensures) (sym (o .slot-ok .ensures) ∙ not-false (o .slot-ok .result) (g .before .before .if3 .left)) (g .loop2 .inv) (c .before .loop2-test .left)
+    ∙ clear-set (g .loop2 .flags) (g .loop2 .pointers) (c .if4 .taken)))
+
+returns-5 : tie.Need-returns-5 Inv-loop2 μ-loop2 Inv-loop μ-loop
+unfolding slotOf
+returns-5 c =
+    let g = c .before .before .before in
+    let o = g .before .before .before in
+    let l = o .before .before .before .before in
+    let t = l .before .before .before .args .t1 in
+    slots-decide t (l .before .before .if1 .left) (l .before .if2 .left)
+    (scan-fails (slotOk t) (l .loop .inv) (omega arith)
+    (slot-is t (l .loop .id) (g .loop2 .flags) (g .loop2 .cycles) (g .loop2 .pointers) (g .before .has-contexts .ensures) (sym (o .slot-ok .ensures) ∙ not-false (o .slot-ok .result) (g .before .before .if3 .left)) (g .loop2 .inv) (c .before .before .loop2-test .left)
+    ∙ clear-rest (g .loop2 .flags) (g .loop2 .pointers) (c .before .if4 .left)
+    ∙ ne-eqb _ _ (c .if5 .taken)))
 
 add-id : tie.Need-add-id Inv-loop2 μ-loop2 Inv-loop μ-loop
 add-id c = search needs
@@ -128,16 +141,17 @@ loop-less c = search needs
 loop-again : tie.Need-loop-again Inv-loop2 μ-loop2 Inv-loop μ-loop
 unfolding slotOf
 loop-again c =
-    let g = c .before .before in
+    let g = c .before .before .before in
     let o = g .before .before .before in
     let l = o .before .before .before .before in
     let t = l .before .before .before .args .t1 in
     scan-goes (slotOk t) (l .loop .inv) (omega arith) true
-    (sym (slot-is t (l .loop .id) (g .loop2 .flags) (g .loop2 .pointers) (g .before .has-contexts .ensures) (sym (o .slot-ok .ensures) ∙ not-false (o .slot-ok .result) (g .before .before .if3 .left)) (g .loop2 .inv) (c .before .loop2-test .left)
-    ∙ eq-eqb _ _ (c .if4 .left)))
+    (sym (slot-is t (l .loop .id) (g .loop2 .flags) (g .loop2 .cycles) (g .loop2 .pointers) (g .before .has-contexts .ensures) (sym (o .slot-ok .ensures) ∙ not-false (o .slot-ok .result) (g .before .before .if3 .left)) (g .loop2 .inv) (c .before .before .loop2-test .left)
+    ∙ clear-rest (g .loop2 .flags) (g .loop2 .pointers) (c .before .if4 .left)
+    ∙ eq-eqb _ _ (c .if5 .left)))
 
-returns-5 : tie.Need-returns-5 Inv-loop2 μ-loop2 Inv-loop μ-loop
-returns-5 c =
+returns-6 : tie.Need-returns-6 Inv-loop2 μ-loop2 Inv-loop μ-loop
+returns-6 c =
     let l = c .before in
     let t = l .before .before .before .args .t1 in
     slots-decide t (l .before .before .if1 .left) (l .before .if2 .left) (sym (scan-ends (slotOk t) (l .loop .inv) (c .loop-test .left)))
@@ -175,7 +189,8 @@ well-formed-spec =
     loop2-less
     loop2-again
     returns-4
+    returns-5
     add-id
     loop-less
     loop-again
-    returns-5)
+    returns-6)

@@ -1,6 +1,7 @@
 -- `slot_manager::evaluate_context` meets its contract. Assumes nothing.
 use borrow.Author.Needs.{needs}
-use Rattle.slot_manager.proofs.CallLaws.{evaluates, head-refused, absent-refused, head-opens}
+use Rattle.definition.specs.Calls.{prog}
+use Rattle.formed.proofs.CallLaws.{evaluates, head-refused, absent-refused, head-opens}
 use Rattle.slot_manager.proofs.evaluate_context.Statement.{statement}
 use Rattle.slot_manager.proofs.evaluate_context.Tie as tie
 
@@ -11,6 +12,7 @@ refused-requires : tie.Need-refused-requires
 refused-requires c κs = search needs
 
 returns : tie.Need-returns
+unfolding prog
 returns c = let b = c .before .before .before in rw (c .refused .ensures) (head-refused (evaluates _ _) (b .opens .ensures) (c .before .if1 .taken))
 
 enum-known-found : tie.Need-enum-known-found
@@ -23,6 +25,7 @@ refused-requires-2 : tie.Need-refused-requires-2
 refused-requires-2 c κs = search needs
 
 returns-2 : tie.Need-returns-2
+unfolding prog
 returns-2 c =
     let d = c .before .before .before in
     rw (c .refused2 .ensures) (absent-refused (evaluates _ _) (d .before .before .opens .ensures) (d .if1 .left) (c .before .enum-told .given .1))

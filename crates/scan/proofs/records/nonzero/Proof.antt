@@ -7,11 +7,8 @@ use Rattle.scan.proofs.records.nonzero.Tie as tie
 endpoint-number-requires : tie.Need-endpoint-number-requires
 endpoint-number-requires c κs = search needs
 
-bit-requires : tie.Need-bit-requires
-bit-requires c κs = search needs
-
 returns : tie.Need-returns
-returns c = clear-record (c .before .before .args .e) (c .before .endpoint-number .ensures) (c .bit .ensures)
+returns c = clear-record (c .before .args .e) (c .endpoint-number .ensures)
 
 pub nonzero-spec : {M : Type 1} → statement M
-nonzero-spec = tie.close (tie.spec endpoint-number-requires bit-requires returns)
+nonzero-spec = tie.close (tie.spec endpoint-number-requires returns)

@@ -1,0 +1,66 @@
+-- `bench::turns` meets its contract. Assumes nothing.
+use Prim.Native.Nat.{_≤_, _-_}
+use borrow.Author.Needs.{needs}
+use Rattle.bench.proofs.turns.Statement.{statement}
+use Rattle.bench.proofs.turns.Tie as tie
+
+abbrev Inv-loop : tie.InvT-loop
+Inv-loop start mem n call pointer zero kept₀ turn₀ a₀ kept turn a = turn ≤ n
+
+abbrev μ-loop : tie.MeasureT-loop
+μ-loop start mem n call pointer zero kept₀ turn₀ a₀ kept turn a = n - turn
+
+loop-holds : tie.Need-loop-holds Inv-loop μ-loop
+loop-holds c = search needs
+
+add-turn : tie.Need-add-turn Inv-loop μ-loop
+add-turn c = search needs
+
+enable-slot-requires : tie.Need-enable-slot-requires Inv-loop μ-loop
+enable-slot-requires c κs = search needs
+
+plus-requires : tie.Need-plus-requires Inv-loop μ-loop
+plus-requires c κs = search needs
+
+loop-less : tie.Need-loop-less Inv-loop μ-loop
+loop-less c = search needs
+
+loop-again : tie.Need-loop-again Inv-loop μ-loop
+loop-again c = search needs
+
+evaluate-context-requires : tie.Need-evaluate-context-requires Inv-loop μ-loop
+evaluate-context-requires c κs = search needs
+
+plus-requires-2 : tie.Need-plus-requires-2 Inv-loop μ-loop
+plus-requires-2 c κs = search needs
+
+loop-less-2 : tie.Need-loop-less-2 Inv-loop μ-loop
+loop-less-2 c = search needs
+
+loop-again-2 : tie.Need-loop-again-2 Inv-loop μ-loop
+loop-again-2 c = search needs
+
+summed-requires : tie.Need-summed-requires Inv-loop μ-loop
+summed-requires c κs = search needs
+
+returns : tie.Need-returns Inv-loop μ-loop
+returns c = search needs
+
+pub turns-spec : {M : Type 1} → statement M
+turns-spec =
+    tie.close
+    (tie.spec
+    Inv-loop
+    μ-loop
+    loop-holds
+    add-turn
+    enable-slot-requires
+    plus-requires
+    loop-less
+    loop-again
+    evaluate-context-requires
+    plus-requires-2
+    loop-less-2
+    loop-again-2
+    summed-requires
+    returns)

@@ -1,0 +1,18 @@
+-- `formed::host_ok` meets its contract. Assumes nothing.
+use borrow.Author.Needs.{needs}
+use Rattle.definition.specs.Calls.{meaning, prog}
+use Rattle.formed.proofs.host_ok.Statement.{statement}
+use Rattle.formed.proofs.host_ok.Tie as tie
+
+reach-requires : tie.Need-reach-requires
+reach-requires c κs = search needs
+
+same-length : tie.Need-same-length
+same-length c = search needs
+
+returns : tie.Need-returns
+unfolding meaning prog
+returns c = c .before .before .reach .ensures
+
+pub host-ok-spec : {M : Type 1} → statement M
+host-ok-spec = tie.close (tie.spec reach-requires same-length returns)
