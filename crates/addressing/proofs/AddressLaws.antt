@@ -32,7 +32,9 @@ use Rattle.contexts.specs.Checks.{Checks}
 use Rattle.contexts.specs.declared.Checked.{Checked}
 use Rattle.contexts.specs.declared.Checked.the-variants as checks
 use Rattle.contexts.proofs.CheckLaws.{check-goes-on, check-refuses}
+use Rattle.scan.specs.Records.{firstOf}
 use Rattle.scan.specs.Heads.{refusal}
+use Rattle.scan.proofs.ScanLaws.{first-is}
 use Rattle.scan.proofs.OpeningLaws.{refuses-with, refuses-at-once, meets-as}
 use Rattle.walks.specs.declared.Launched.{Launched}
 use Rattle.walks.specs.Promises.{walk, CopyLaunches}
@@ -43,13 +45,9 @@ use Rattle.addressing.specs.Types.{Endpoint, SlotState, Free, Enabled, D
 use Rattle.addressing.specs.declared.Device.{Device}
 use Rattle.addressing.specs.declared.Addressing.{Addressing}
 use Rattle.commands.specs.Promises.{Carries, Answers, Settles}
-use Rattle.addressing.specs.Promises.{firstOf, withFirst, addressed, Copies, addressing, outcomeOf, Addresses}
+use Rattle.addressing.specs.Promises.{withFirst, addressed, Copies, addressing, outcomeOf, Addresses}
 
 -- ---- endpoint 1, as the code finds it in the flat run
-
-pub is-first : (t : Table) (id : ℕ) → endpointOf t id 1 ≡ firstOf t id
-unfolding endpointOf
-is-first t id = rw add-zero
 
 is-with-first : (t : Table) (id : ℕ) (e : Endpoint) → withEndpoint t id 1 e ≡ withFirst t id e
 unfolding withEndpoint
@@ -133,7 +131,7 @@ module _ (P : ℕ) (t : Table) (id : ℕ) (slot : Slot) (next : SlotState) (m : 
   unfolding carryOut
   again-goes {from} {e} {gone} {m₁} d {m′} i h off g w q =
       let one : gone .stored ≡ 1 = g .count ∙ rw off in
-      let g₁ : Terminates (endpointOf t id 1) (slot .base ⊕ 32 * 1) m gone m₁ = rw (is-first, q) g in
+      let g₁ : Terminates (endpointOf t id 1) (slot .base ⊕ 32 * 1) m gone m₁ = rw (first-is, q) g in
       let k : Ends (terminate id (slot .base) 1 (begin t)) m 0 (walk (withFirst t id (gone .endpoint)) 0 2 0) m₁ 1 =
       rw (is-with-first, one) at (terminate-one id (slot .base) 1 (begin t) g₁ 0) in
       let v : Carries (copyContexts id (P ⊕ 32) (slot .base) next (slot .entry) (walk (withFirst t id (gone .endpoint)) 0 2 0)) m₁ 1 (addressed t id d) m′ =
@@ -163,7 +161,7 @@ pub default-fits : {t : Table} {m : Mem} {id : ℕ} {s : Slot} → Opened t m id
 default-fits {t} {m} {id} {s} o d =
     let k = opened-slot o in
     let u : InUse (t .length) (s .base) id t = rw d at (opened-fits o) in
-    (omega (arith, u .room, k .size), rw is-first at (u .first))
+    (omega (arith, u .room, k .size), rw first-is at (u .first))
 
 module _ (s : Slot) (P : ℕ) (bsr : Bool) (m : Mem) {checked : Checked} (w : Checks P m checked) (id : ℕ) (t : Table) where
   abbrev Whole : Prog (Result Told)

@@ -3,11 +3,12 @@
 use mathlib.Core.Path.{_≡_}
 use mathlib.Core.Bool.{Bool}
 use Prim.Native.Nat.{ℕ, _-_, _*_}
-use lib.ListN.{length, getD, set}
+use lib.ListN.{length, set}
 use Rattle.guest.specs.Prog.{Mem, Prog, Result, andThen}
-use Rattle.definition.specs.Table.{disabled, withSlot}
+use Rattle.definition.specs.Table.{withSlot}
 use Rattle.definition.specs.Commands.{Told, usbTypes, contextCheck, plan, carryOut, copyContexts}
 use Rattle.walks.specs.Promises.{walk}
+use Rattle.scan.specs.Records.{firstOf}
 use Rattle.scan.specs.Heads.{refusal}
 use Rattle.commands.specs.Promises.{tallied, Carries, Settles}
 use Rattle.addressing.specs.Types.{Endpoint, Slot, Table, Outcome}
@@ -15,11 +16,7 @@ use Rattle.addressing.specs.declared.Device.{Device}
 use Rattle.addressing.specs.declared.Addressing.{Addressing}
 use Rattle.addressing.specs.declared.Addressing.the-variants.{Refused, Done}
 
--- endpoint 1 of slot id, as the code finds it in the flat run
-abbrev pub firstOf : Table → ℕ → Endpoint
-firstOf t id = getD (t .endpoints) ((id - 1) * 31) disabled
-
--- the table with another
+-- the table with another endpoint 1 in slot id
 abbrev pub withFirst : Table → ℕ → Endpoint → Table
 withFirst t id e =
     record { limit = t .limit; length = t .length; dcbaap = t .dcbaap; slots = t .slots; endpoints = set (t .endpoints) ((id - 1) * 31) e }

@@ -17,7 +17,7 @@ use Rattle.guest.proofs.ListLaws.{count-none, count-first}
 use Rattle.guest.proofs.RunLaws.{is-inside, is-outside}
 use Rattle.definition.specs.Table.{endpointNumber, disabled, endpointOf, slotOf, isZero, usedOk, noEndpoint, slotOkIn, slotOk, wellFormed, lookup}
 use Rattle.scan.specs.Types.{Endpoint, SlotState, Free, Enabled, Default, Addressed, Configured, Slot, Table, Lookup, Nothing}
-use Rattle.scan.specs.Records.{hasContexts, inUse, ownIn, ownOk, recordOk, clear}
+use Rattle.scan.specs.Records.{firstOf, hasContexts, inUse, ownIn, ownOk, recordOk, clear}
 use Rattle.scan.specs.Heads.{codeFor, headFor, foundIn}
 
 -- ---- one record
@@ -111,11 +111,7 @@ scan-gathers f a c b x d y s h e = scan-goes f s h _ (clear-or a c b x d y ∙ a
 abbrev pub testOf : Bool → ℕ → ℕ → Table → ℕ → ℕ → Bool
 testOf contexts length base t id i = recordOk contexts length base i (endpointOf t id i)
 
--- endpoint 1's record, where the code reads it
-abbrev pub firstOf : Table → ℕ → Endpoint
-firstOf t id = getD (t .endpoints) ((id - 1) * 31) disabled
-
-first-is : (t : Table) (id : ℕ) → endpointOf t id 1 ≡ firstOf t id
+pub first-is : (t : Table) (id : ℕ) → endpointOf t id 1 ≡ firstOf t id
 unfolding endpointOf
 first-is t id = ap (λ (k : ℕ). getD (t .endpoints) k disabled) (add-zero ((id - 1) * 31))
 

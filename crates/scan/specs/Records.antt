@@ -1,11 +1,16 @@
 -- One slot's record or one endpoint's, as the scan tests it: the definition's tests, the slot's own part apart from its endpoints' records.
 -- Assumes nothing.
 use mathlib.Core.Bool.{Bool, not, cond, _&&_}
-use Prim.Native.Nat.{ℕ}
+use Prim.Native.Nat.{ℕ, _-_, _*_}
 use lib.Dec.{eqb, ltb}
+use lib.ListN.{getD}
 use Rattle.guest.specs.Bytes.{inside}
-use Rattle.scan.specs.Types.{Endpoint, SlotState, Free, Enabled, Default, Addressed, Configured, Slot}
-use Rattle.definition.specs.Table.{slotNumber, isDisabled, isZero, endpointOk}
+use Rattle.scan.specs.Types.{Endpoint, SlotState, Free, Enabled, Default, Addressed, Configured, Slot, Table}
+use Rattle.definition.specs.Table.{slotNumber, isDisabled, disabled, isZero, endpointOk}
+
+-- endpoint 1's record, where the code reads it in the flat run
+abbrev pub firstOf : Table → ℕ → Endpoint
+firstOf t id = getD (t .endpoints) ((id - 1) * 31) disabled
 
 -- a slot past Enabled has contexts
 abbrev pub hasContexts : SlotState → Bool
