@@ -1,12 +1,12 @@
 -- A slot in use, and how its endpoints end: Terminate ends an endpoint in all six states, and an Enabled slot has none.
 -- Assumes nothing.
-use mathlib.Core.Path.{_≡_, refl, sym, subst}
+use mathlib.Core.Path.{_≡_, refl, subst}
 use mathlib.Core.Bool.{Bool, true, false, not, cond, _&&_}
 use mathlib.Core.List.{List, [], _∷_}
 use Prim.Native.Nat.{ℕ, _-_, _^_, _≤_, _<_}
 use native.Mathlib.Omega.{arith}
 use native.Mathlib.Decide.{decLt}
-use borrow.Author.Tests.{leb-true, eqb-true}
+use borrow.Author.Tests.{leb-true, eqb-true, not-true}
 use lib.Dec.{leb, eqb}
 use lib.ListN.{length, getD, List·getD-eq-default}
 use Rattle.guest.specs.Bytes.{inside, count}
@@ -22,6 +22,7 @@ use Rattle.definition.specs.Commands as commands
 use Rattle.definition.specs.Calls.{disableSlot, meaning, prog}
 use Rattle.definition.specs.Rules.{Opened}
 use Rattle.definition.proofs.TableLaws.{IsSlot, IsEndpoint}
+use Rattle.definition.proofs.FormedFacts.{formed-length, formed-slot}
 use Rattle.definition.proofs.CountLaws.{Dropping, slot-runs, freeing-runs, prog-runs}
 
 -- ---- Terminate
@@ -53,10 +54,6 @@ terminate-ends e at h = record { by-step = rw (terminate-entry (e .state) h); by
 
 -- ---- a slot in use
 
-not-true : (b : Bool) → not b ≡ true → b ≡ false
-not-true true e = sym e
-not-true false e = refl
-
 -- what a lookup found
 pub used-slot : (t : Table) (id : ℕ) (s : Slot) → lookup t id ≡ Used s → (slotOf t id ≡ s) × IsSlot id × (isFree s ≡ false)
 unfolding lookup
@@ -85,28 +82,16 @@ used-inside t id f = by (decLt (id - 1) (length (t .slots)))
         let z : isFree free ≡ false = subst (λ (r : Slot). isFree r ≡ false) e f in
         let y : _≡_ {A = ℕ} 0 1 = cc in absurd (omega arith)
 
--- memory is at most 2^30 bytes long
-pub length-low : (t : Table) → wellFormed t ≡ true → t .length ≤ 2 ^ 30
-unfolding wellFormed
-length-low t f =
-    leb-true (t .length) 1073741824 (and-right (leb (t .limit) 16) (leb (t .length) 1073741824) (and-left _ (all (count 16 1) (slotOk t)) f))
-
--- each slot of a well-formed table is
-slot-ok : (t : Table) (id : ℕ) → wellFormed t ≡ true → IsSlot id → slotOkIn (slotOf t id .state) (slotOf t id) t id ≡ true
-unfolding wellFormed slotOk
-slot-ok t id f n =
-    all-at (slotOk t) 16 1 (and-right (leb (t .limit) 16 && leb (t .length) 1073741824) (all (count 16 1) (slotOk t)) f) id (n .0) (omega arith)
-
 -- a base lies below the longest memory's end
 pub base-low : (t : Table) (id : ℕ) → wellFormed t ≡ true → IsSlot id → slotOf t id .base ≤ 2 ^ 30
-unfolding usedOk
-base-low t id f n = by (slotOf t id .state) (slot-ok t id f n)
+unfolding usedOk slotOk
+base-low t id f n = by (slotOf t id .state) (formed-slot t f id n)
   where
     used : usedOk t id (slotOf t id .base) ≡ true → slotOf t id .base ≤ 2 ^ 30
     used h =
         omega (
           arith,
-          length-low t f,
+          formed-length t f,
           inside-yes (t .length) (slotOf t id .base) 64
               (and-right (not (isDisabled (endpointOf t id 1))) (inside (t .length) (slotOf t id .base) 64)
               (and-left _ (all (count 31 1) (λ i. endpointOk (t .length) (slotOf t id .base) i (endpointOf t id i))) h)),
@@ -143,9 +128,9 @@ known t m id s o =
 -- it has no endpoint
 enabled-none : (t : Table) (id i : ℕ) → wellFormed t ≡ true → IsSlot id → slotOf t id .state ≡ Enabled → IsEndpoint i
     → isDisabled (endpointOf t id i) ≡ true
-unfolding noEndpoint isZero
+unfolding noEndpoint isZero slotOk
 enabled-none t id i f n e h =
-    let ok : slotOkIn Enabled (slotOf t id) t id ≡ true = subst (λ (st : SlotState). slotOkIn st (slotOf t id) t id ≡ true) e (slot-ok t id f n) in
+    let ok : slotOkIn Enabled (slotOf t id) t id ≡ true = subst (λ (st : SlotState). slotOkIn st (slotOf t id) t id ≡ true) e (formed-slot t f id n) in
     let none : noEndpoint t id ≡ true = and-right (eqb (slotOf t id .base) 0) (noEndpoint t id) ok in
     let zero : isZero (endpointOf t id i) ≡ true = all-at (λ j. isZero (endpointOf t id j)) 31 1 none i (h .0) (omega arith) in
     and-left (isDisabled (endpointOf t id i)) (not (endpointOf t id i .cycle)) (and-left _ (eqb (endpointOf t id i .pointer) 0) zero)

@@ -36,7 +36,7 @@ pub formed-length : (t : Table) → wellFormed t ≡ true → t .length ≤ 1073
 unfolding wellFormed
 formed-length t h = leb-true _ _ (and-right (leb (t .limit) 16) _ (and-left (limits t) _ h))
 
-formed-slot : (t : Table) → wellFormed t ≡ true → (id : ℕ) → IsSlot id → slotOk t id ≡ true
+pub formed-slot : (t : Table) → wellFormed t ≡ true → (id : ℕ) → IsSlot id → slotOk t id ≡ true
 unfolding wellFormed
 formed-slot t h id s = all-at (slotOk t) 16 1 (and-right (limits t) _ h) id (s .0) (omega arith)
 

@@ -1,7 +1,6 @@
--- A call on one slot leaves every other slot as it was, and stores only within its own device context.
+-- A call on one slot leaves every other slot, the limit and DCBAAP as they were, and stores only within its own device context.
 -- Assumes nothing.
 use mathlib.Core.Path.{_≡_, refl, sym, ap, subst, _∙_}
-use mathlib.Core.Logic.{⊎-elim}
 use mathlib.Core.Bool.{Bool, true, false, cond}
 use mathlib.Core.List.{List, [], _∷_, _++_}
 use Prim.Native.Nat.{ℕ, _+_, _-_, _*_, _^_, _≤_, _<_}
@@ -13,7 +12,7 @@ use Rattle.guest.specs.Bytes.{_⊕_, inside, count, setBits, bit, slotStateByte
 use Rattle.guest.specs.Prog.{Mem, block, run, Within, Store, stores, Touched, Result, ok, refuse}
 use Rattle.guest.proofs.ListLaws.{All, none, more, all-map, count-all, those-all, all-head}
 use Rattle.guest.proofs.ReadLaws.{applied}
-use Rattle.guest.proofs.StoreLaws.{Runs, store, runs-done, runs-last, touched-append}
+use Rattle.guest.proofs.StoreLaws.{Runs, store, runs-done, runs-last, Stays, stays-none, stays-more, stays-append}
 use Rattle.definition.specs.Types.{Enabled, Input, Endpoint, SlotState, Default, Addressed, Configured, Slot, Table}
 use Rattle.definition.specs.Table.{slotNumber, isFree, disabled, free, endpointOf, slotOf, withEndpoint, withSlot, noEndpoint, wellFormed}
 use Rattle.definition.specs.Walks.{Walk, begin}
@@ -21,7 +20,8 @@ use Rattle.definition.specs.Commands as commands
 use Rattle.definition.specs.Commands.{Told, contextState, endpointCall}
 use Rattle.definition.specs.Calls.{Call, setLimit, setDcbaap, enableSlot, disableSlot, addressDevice, configureEndpoint, evaluateContext, resetDevice, resetAll, stopEndpoint, resetEndpoint, setDequeue, doorbell, hostOk, hostStall, hostTransactionError, hostTrbError, meaning, told, prog}
 use Rattle.definition.proofs.TableLaws.{IsEndpoint, endpoint-elsewhere, endpoint-slot, slot-other, slot-endpoint}
-use Rattle.definition.proofs.EndedLaws.{Known, known, length-low}
+use Rattle.definition.proofs.FormedFacts.{formed-length}
+use Rattle.definition.proofs.EndedLaws.{Known, known}
 use Rattle.definition.proofs.CountLaws.{Dropping, Adding, Starts, fresh-base, kept-base, kept-ended, copies, copied, half, settle, slot-runs, check-runs, settled-runs, deconfigure-runs, reconfigure-runs, address-runs, freeing-runs, reach-runs, prog-runs}
 
 -- ---- what is shown
@@ -52,6 +52,7 @@ home id t u = cond (isFree (slotOf u id)) (slotOf t id .base) (slotOf u id .base
 
 -- t became u, and the stores ws were made. Only an Enabled slot gets another base
 pub record Isolated (id : ℕ) (t u : Table) (ws : List Store) : Type 0 where
+  pub registers : (u .limit ≡ t .limit) × (u .dcbaap ≡ t .dcbaap)
   pub slots : (other : ℕ) → 1 ≤ other → (other ≡ id → ⊥) → slotOf u other ≡ slotOf t other
   pub endpoints : (other j : ℕ) → 1 ≤ other → (other ≡ id → ⊥) → IsEndpoint j → endpointOf u other j ≡ endpointOf t other j
   pub within : (a : ℕ) → Touched ws a → Within (home id t u) 1024 a
@@ -60,31 +61,24 @@ pub record Isolated (id : ℕ) (t u : Table) (ws : List Store) : Type 0 where
 -- ---- stores within a device context
 
 -- every store lies within the 1024 bytes from base
-record Own (base : ℕ) (ws : List Store) : Type 0 where
-  at : (a : ℕ) → Touched ws a → Within base 1024 a
-
-own-none : (base : ℕ) → Own base []
-unfolding Touched
-own-none base = record { at = λ a h. absurd h }
+abbrev Own : ℕ → List Store → Type 0
+Own base = Stays (Within base 1024)
 
 own-more : (base at : ℕ) (bs : List ℕ) {ws : List Store} → base ≤ at → at + length bs ≤ base + 1024 → Own base ws → Own base (store at bs ∷ ws)
-unfolding Touched
-own-more base at bs h q o = record { at = λ a. ⊎-elim (λ w. omega arith) (o .at a) }
-
-own-append : (base : ℕ) (ws vs : List Store) → Own base ws → Own base vs → Own base (ws ++ vs)
-own-append base ws vs o p = record { at = λ a h. ⊎-elim (o .at a) (p .at a) (touched-append ws vs a h) }
+own-more base at bs h q o = stays-more at bs (λ a w. omega arith) o
 
 -- ---- walks
 
 -- a walk over slot id's endpoints, from the table t
 record Aside (t : Table) (id base : ℕ) (is : List ℕ) (ws : List Store) (w : Walk) : Type 0 where
   left : All IsEndpoint is
+  registers : (w .table .limit ≡ t .limit) × (w .table .dcbaap ≡ t .dcbaap)
   slots : w .table .slots ≡ t .slots
   endpoints : (other j : ℕ) → 1 ≤ other → (other ≡ id → ⊥) → IsEndpoint j → endpointOf (w .table) other j ≡ endpointOf t other j
   own : Own base ws
 
 aside-begin : (t : Table) (id base : ℕ) {is : List ℕ} → All IsEndpoint is → Aside t id base is [] (begin t)
-aside-begin t id base a = record { left = a; slots = refl; endpoints = λ other j _ _ _. refl; own = own-none base }
+aside-begin t id base a = record { left = a; registers = (refl, refl); slots = refl; endpoints = λ other j _ _ _. refl; own = stays-none }
 
 module _ (t : Table) (id base : ℕ) (some : 1 ≤ id) (low : base ≤ 2 ^ 30) where
   -- endpoint i becomes e, and what is stored lies in the context
@@ -96,18 +90,19 @@ module _ (t : Table) (id base : ℕ) (some : 1 ≤ id) (low : base ≤ 2 ^ 30) w
       let h = all-head (a .left) in
       record {
         left = h .1;
+        registers = (ap (λ (u : Table). u .limit) same ∙ a .registers .0, ap (λ (u : Table). u .dcbaap) same ∙ a .registers .1);
         slots = ap (λ (u : Table). u .slots) same ∙ a .slots;
         endpoints = λ other j b n k.
             ap (λ (u : Table). endpointOf u other j) same ∙ endpoint-elsewhere (w .table) id i other j e some b n (h .0) k ∙ a .endpoints other j b n k;
-        own = own-append base ws vs (a .own) (o (h .0));
+        own = stays-append (a .own) (o (h .0));
       }
 
   aside-drops : Dropping id base (Aside t id base)
   aside-drops =
       record {
-        skip = λ i is ws w a. record { left = all-head (a .left) .1; slots = a .slots; endpoints = a .endpoints; own = a .own };
+        skip = λ i is ws w a. record { left = all-head (a .left) .1; registers = a .registers; slots = a .slots; endpoints = a .endpoints; own = a .own };
         go = λ i is ws w a _.
-            aside-one i is ws _ w _ disabled refl (λ n. own-more base (base ⊕ 32 * i) (0 ∷ []) (omega arith) (omega arith) (own-none base)) a;
+            aside-one i is ws _ w _ disabled refl (λ n. own-more base (base ⊕ 32 * i) (0 ∷ []) (omega arith) (omega arith) stays-none) a;
       }
 
   aside-joins : (m : Mem) (P : ℕ) → Adding m id P base (Aside t id base)
@@ -117,7 +112,7 @@ module _ (t : Table) (id base : ℕ) (some : 1 ≤ id) (low : base ≤ 2 ^ 30) w
             aside-one i is ws _ w _ _ refl
             (λ n. own-more base (base ⊕ 32 * i) (block (applied m ws) (P ⊕ 32 * (i + 1)) 32) (omega arith)
             (omega (arith, length-take 32 (drop (P ⊕ 32 * (i + 1)) (applied m ws))))
-            (own-more base (base ⊕ 32 * i) (1 ∷ []) (omega arith) (omega arith) (own-none base))) a;
+            (own-more base (base ⊕ 32 * i) (1 ∷ []) (omega arith) (omega arith) stays-none)) a;
       }
 
   -- the slot changes at the end
@@ -128,9 +123,10 @@ module _ (t : Table) (id base : ℕ) (some : 1 ≤ id) (low : base ≤ 2 ^ 30) w
     slot-set s = getD-set-same (w .table .slots) (id - 1) s free (rw (a .slots) inside)
 
     aside-slot : (s : Slot) → home id t (withSlot (w .table) id s) ≡ base → Isolated id t (withSlot (w .table) id s) ws
-    unfolding slotOf
+    unfolding slotOf withSlot
     aside-slot s e =
         record {
+          registers = a .registers;
           slots = λ other b n. slot-other (w .table) id s other some b n ∙ rw (a .slots);
           endpoints = λ other j b n k. endpoint-slot (w .table) id s other j ∙ a .endpoints other j b n k;
           within = λ b q. subst (λ (x : ℕ). Within x 1024 b) (sym e) (a .own .at b q);
@@ -147,10 +143,10 @@ module _ (t : Table) (id base : ℕ) (some : 1 ≤ id) (low : base ≤ 2 ^ 30) w
 -- ---- commands
 
 -- endpoints 2 to 31, and those of them whose bit is set
-later : All IsEndpoint (count 30 2)
+pub later : All IsEndpoint (count 30 2)
 later = count-all IsEndpoint 30 2 (λ j a b. omega arith)
 
-flagged : (x : ℕ) → All IsEndpoint (setBits 30 2 x)
+pub flagged : (x : ℕ) → All IsEndpoint (setBits 30 2 x)
 flagged x = all-map (λ i h. h .0) (those-all IsEndpoint (bit x) (count 30 2) later)
 
 one : All IsEndpoint (1 ∷ [])
@@ -168,7 +164,13 @@ module _ (t : Table) (m : Mem) (id : ℕ) where
   same-table : (c : ℕ) → Alone [] (refuse c)
   unfolding Touched
   same-table c =
-      record { slots = λ other _ _. refl; endpoints = λ other j _ _ _. refl; within = λ a h. absurd h; kept = λ _. either (isFree (slotOf t id)) (slotOf t id .base) }
+      record {
+        registers = (refl, refl);
+        slots = λ other _ _. refl;
+        endpoints = λ other j _ _ _. refl;
+        within = λ a h. absurd h;
+        kept = λ _. either (isFree (slotOf t id)) (slotOf t id .base);
+      }
 
   refused : (c : ℕ) → 2 ≤ c → Alone [] (refuse c)
   refused c _ = same-table c
@@ -181,9 +183,10 @@ module _ (t : Table) (m : Mem) (id : ℕ) where
         aside-settled t id (s .base) (k .is .0) (k .low) (k .inside) (λ _. ap (λ (r : Slot). r .base) (sym (k .same))) _ w
         (record {
           left = none;
+          registers = a .registers;
           slots = a .slots;
           endpoints = a .endpoints;
-          own = own-append (s .base) ws _ (a .own) (own-more (s .base) (s .base + 15) _ (omega arith) (omega arith) (own-none (s .base)));
+          own = stays-append (a .own) (own-more (s .base) (s .base + 15) _ (omega arith) (omega arith) stays-none);
         }) nxt (s .entry) n
 
     deconfigure-alone : (nxt : SlotState) → eqb (slotNumber nxt) 0 ≡ false → Runs (commands.deconfigure id s nxt t) m Alone
@@ -193,7 +196,7 @@ module _ (t : Table) (m : Mem) (id : ℕ) where
     reconfigure-alone : (accepts : ℕ → Bool) (P : ℕ) → Runs (commands.reconfigure accepts id P s (length m) t) m Alone
     reconfigure-alone accepts P =
         reconfigure-runs id s t refused accepts (length m) P (aside-drops t id (s .base) (k .is .0) (k .low)) (aside-joins t id (s .base) (k .is .0) (k .low) m P)
-        (λ _ ws w a. record { left = flagged _; slots = a .slots; endpoints = a .endpoints; own = a .own })
+        (λ _ ws w a. record { left = flagged _; registers = a .registers; slots = a .slots; endpoints = a .endpoints; own = a .own })
         (aside-begin t id (s .base) (flagged _)) (λ ws w a. finish-alone ws w Configured refl a)
 
     begins-kept : {ws : List Store} {base : ℕ} {w : Walk} → Starts m id s t ws base w → (slotOf t id .state ≡ Enabled → ⊥) → base ≡ slotOf t id .base
@@ -206,7 +209,7 @@ module _ (t : Table) (m : Mem) (id : ℕ) where
     begins-alone low (kept-base e) = aside-begin t id _ one
     begins-alone low (kept-ended e) =
         aside-one t id (s .base) (k .is .0) low 1 (1 ∷ []) [] _ (begin t) _ disabled refl
-        (λ n. own-more (s .base) (s .base ⊕ 32 * 1) (0 ∷ []) (omega arith) (omega arith) (own-none (s .base)))
+        (λ n. own-more (s .base) (s .base ⊕ 32 * 1) (0 ∷ []) (omega arith) (omega arith) stays-none)
         (aside-begin t id (s .base) (more {i = 1} (omega arith) one))
 
     address-alone : (P : ℕ) (bsr : Bool) → t .length ≡ length m → wellFormed t ≡ true
@@ -214,7 +217,7 @@ module _ (t : Table) (m : Mem) (id : ℕ) where
     address-alone P bsr size f =
         address-runs id s t refused (length m) P bsr
         (λ ws base nxt w b n _ h.
-        let low : base ≤ 2 ^ 30 = omega (arith, length-low t f) in
+        let low : base ≤ 2 ^ 30 = omega (arith, formed-length t f) in
         aside-settled t id base (k .is .0) low (k .inside) (begins-kept b) _ (copied (applied m ws) (P ⊕ 32) id base nxt w)
         (aside-one t id base (k .is .0) low 1 [] ws (copies (applied m ws) (P ⊕ 32) base nxt) w _ _ refl
         (λ _. copies-own (applied m ws) base nxt low) (begins-alone low b)) nxt (s .entry) n)
@@ -225,7 +228,7 @@ module _ (t : Table) (m : Mem) (id : ℕ) where
             (own-more base (base + 15) _ (omega arith) (omega arith)
             (own-more base (base ⊕ 32 * 1) (block (half n (P ⊕ 32) base nxt) ((P ⊕ 32) + 32) 32) (omega arith)
             (omega (arith, length-take 32 (drop ((P ⊕ 32) + 32) (half n (P ⊕ 32) base nxt))))
-            (own-more base (base ⊕ 32 * 1) (1 ∷ []) (omega arith) (omega arith) (own-none base))))
+            (own-more base (base ⊕ 32 * 1) (1 ∷ []) (omega arith) (omega arith) stays-none)))
 
     disable-alone : Runs (commands.freeing id t) m (λ ws w. Isolated id t (w .table) ws)
     disable-alone =
@@ -234,12 +237,14 @@ module _ (t : Table) (m : Mem) (id : ℕ) where
         (λ ws w a. aside-freed t id (slotOf t id .base) (k .is .0) low (k .inside) (λ _. refl) ws w a refl)
 
   reach-alone : (noSlot noEndpoint i : ℕ) → 2 ≤ noSlot → 2 ≤ noEndpoint → (input : Input) → Runs (endpointCall noSlot noEndpoint id i input (length m) t) m Alone
+  unfolding withEndpoint
   reach-alone noSlot noEndpoint i p q input =
       reach-runs refused noSlot noEndpoint id i p q input t
       (λ s ws r o e _ w.
       let k = known t m id s o in
       let base : home id t (withEndpoint t id i (r .endpoint)) ≡ s .base = rw (slot-endpoint t id i (r .endpoint) id, k .same, k .used) in
       record {
+        registers = (refl, refl);
         slots = λ other _ _. slot-endpoint t id i (r .endpoint) other;
         endpoints = λ other j b n d. endpoint-elsewhere t id i other j (r .endpoint) (k .is .0) b n e d;
         within = λ a h. subst (λ (x : ℕ). Within x 1024 a) (sym base) (omega (arith, w a h, k .low));

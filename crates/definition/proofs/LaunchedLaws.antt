@@ -24,7 +24,8 @@ use Rattle.definition.specs.Calls.{addressDevice, configureEndpoint, mea
 use Rattle.definition.proofs.TableLaws.{Sized, IsSlot, sized-endpoint, endpoint-here, endpoint-other, endpoint-slot, slot-here}
 use Rattle.definition.proofs.MaskLaws.{Ascends, ascends-head, bits-ascend, mask-low, bit-of, bit-added, bit-stays, bit-zero}
 use Rattle.definition.proofs.CountLaws.{launch-word, context-stores, Dropping, Adding, Starts, fresh-base, kept-base, kept-ended, half, waiting, slot-runs, check-runs, settled-runs, reconfigure-runs, address-runs, prog-runs}
-use Rattle.definition.proofs.EndedLaws.{Known, known, length-low}
+use Rattle.definition.proofs.FormedFacts.{formed-length}
+use Rattle.definition.proofs.EndedLaws.{Known, known}
 
 -- what is shown of a call that succeeds; a refusal does not
 Success : (Answer → Table → Type 0) → Told → Type 0
@@ -88,7 +89,7 @@ module _ (t : Table) (m : Mem) (id P : ℕ) (z : Sized t) where
     first-runs bsr size f =
         address-runs id s t (refused First t) (length m) P bsr
         (λ ws base nxt w b _ p h e.
-        let low : base ≤ 2 ^ 30 = omega (arith, length-low t f) in
+        let low : base ≤ 2 ^ 30 = omega (arith, formed-length t f) in
         let known = began low b in
         let slot : Slot = record { state = nxt; base = base; entry = s .entry } in
         let set = slot-here _ id slot (sized-endpoint (w .table) id 1 _ (known .sized)) (k .is) in

@@ -23,3 +23,4 @@ pub mod ShapeLaws
 pub mod EndedLaws
 pub mod IsolationLaws
 pub mod LaunchedLaws
+pub mod InsideLaws

@@ -143,6 +143,21 @@ touched-append [] vs a t = inr t
 touched-append (w ∷ ws) vs a (inl h) = inl (inl h)
 touched-append (w ∷ ws) vs a (inr t) = ⊎-elim (λ q. inl (inr q)) inr (touched-append ws vs a t)
 
+-- each address that is stored to has P
+pub record Stays (P : ℕ → Type 0) (ws : List Store) : Type 0 where
+  pub at : (a : ℕ) → Touched ws a → P a
+
+pub stays-none : {P : ℕ → Type 0} → Stays P []
+unfolding Touched
+stays-none = record { at = λ a h. absurd h }
+
+pub stays-more : {P : ℕ → Type 0} (at : ℕ) (bs : List ℕ) {ws : List Store} → ((a : ℕ) → Within at (length bs) a → P a) → Stays P ws → Stays P (store at bs ∷ ws)
+unfolding Touched
+stays-more at bs h l = record { at = λ a. ⊎-elim (h a) (l .at a) }
+
+pub stays-append : {P : ℕ → Type 0} {ws vs : List Store} → Stays P ws → Stays P vs → Stays P (ws ++ vs)
+stays-append {ws = ws} {vs} l k = record { at = λ a h. ⊎-elim (l .at a) (k .at a) (touched-append ws vs a h) }
+
 -- a block that no store meets is kept
 pub block-kept : (m : Mem) (ws : List Store) (a n : ℕ) → ((x : ℕ) → Within a n x → Touched ws x → ⊥) → block (applied m ws) a n ≡ block m a n
 block-kept m ws a n h = block-same (applied m ws) m a n (applied-length ws m) (λ x w. applied-other ws m x (h x w))
