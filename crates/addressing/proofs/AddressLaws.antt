@@ -4,7 +4,7 @@ use mathlib.Core.Path.{_≡_, refl, sym, _∙_}
 use mathlib.Core.Logic.{⊎-elim}
 use mathlib.Core.Bool.{Bool, false}
 use mathlib.Core.List.{List, [], _∷_}
-use Prim.Native.Nat.{ℕ, _+_, _-_, _*_, _≤_}
+use Prim.Native.Nat.{ℕ, _+_, _*_, _≤_}
 use native.Mathlib.Nat.{add-zero}
 use native.Mathlib.Omega.{arith}
 use types.Run.{OneOf}
@@ -156,12 +156,13 @@ plan-other Configured bsr h = refl
 
 -- ---- the whole
 
--- endpoint 1 of a Default slot is enabled, and its device context begins in memory
-pub default-fits : {t : Table} {m : Mem} {id : ℕ} {s : Slot} → Opened t m id s → s .state ≡ Default → (s .base + 64 ≤ length m) × (isDisabled (firstOf t id) ≡ false)
-default-fits {t} {m} {id} {s} o d =
+-- what `attempt` asks: endpoint 1 of a Default slot is enabled, and its device context begins in memory
+pub default-fits : {t : Table} {m : Mem} {id : ℕ} {s : Slot} → Opened t m id s → {first : Endpoint} → first ≡ firstOf t id
+    → s .state ≡ Default → (s .base + 64 ≤ length m) × (isDisabled first ≡ false)
+default-fits {t} {m} {id} {s} o q d =
     let k = opened-slot o in
     let u : InUse (t .length) (s .base) id t = rw d at (opened-fits o) in
-    (omega (arith, u .room, k .size), rw first-is at (u .first))
+    (omega (arith, u .room, k .size), rw q (rw first-is at (u .first)))
 
 module _ (s : Slot) (P : ℕ) (bsr : Bool) (m : Mem) {checked : Checked} (w : Checks P m checked) (id : ℕ) (t : Table) where
   abbrev Whole : Prog (Result Told)
@@ -180,7 +181,8 @@ module _ (s : Slot) (P : ℕ) (bsr : Bool) (m : Mem) {checked : Checked} (w : Ch
   attempt-never e q = attempt-goes e q (refuses-at-once t m refl)
 
 -- on a slot that was found
-pub device-answers : {t : Table} {m : Mem} {id : ℕ} {s : Slot} → Opened t m id s → (P : ℕ) (bsr : Bool) (k : Addressing) {k′ : Addressing} {m′ : Mem}
-    → Addresses (firstOf t id) (addressing s P bsr) m k m′ → k ≡ k′ → Answers (calls.addressDevice id P bsr) t m (outcomeOf t id k′) m′
+pub device-answers : {t : Table} {m : Mem} {id : ℕ} {s : Slot} → Opened t m id s → {first : Endpoint} → first ≡ firstOf t id
+    → (P : ℕ) (bsr : Bool) (k : Addressing) {k′ : Addressing} {m′ : Mem} → Addresses first (addressing s P bsr) m k m′ → k ≡ k′
+    → Answers (calls.addressDevice id P bsr) t m (outcomeOf t id k′) m′
 unfolding prog meaning addressDevice
-device-answers {t} {m} {id} {s} o P bsr k h e = meets-as t (slot-opens 11 t id _ m s o) (rw (← e) (h id t refl))
+device-answers {t} {m} {id} {s} o q P bsr k h e = meets-as t (slot-opens 11 t id _ m s o) (rw (← e) (h id t (sym q)))

@@ -1,4 +1,4 @@
-// Address Device (xHCI 4.6.5). Only endpoint 1 and the slot's own record change, so that all but the last function do without the table.
+// Address Device (xHCI 4.6.5). Only endpoint 1 and the slot's own record change, so that all but the last two functions do without the table.
 use commands::outcome;
 use commands::outcome::Tally;
 use contexts::Checked;
@@ -18,7 +18,7 @@ ghost use Rattle.definition.specs.Commands as commands;
 ghost use Rattle.definition.specs.Calls as calls;
 ghost use Rattle.definition.specs.Rules.{Opened};
 ghost use Rattle.commands.specs.Promises.{Answers};
-ghost use Rattle.addressing.specs.Promises.{Copies, Addresses, addressing};
+ghost use Rattle.addressing.specs.Promises.{addressed, Copies, Addresses, addressing};
 
 // What the command leaves: both records, and what it answers with.
 pub struct Device {
@@ -107,7 +107,7 @@ fn second_address(mem: &mut [u8], slot: Slot, first: Endpoint, pointer: u64) -> 
 }
 
 // The context check comes first, then the state.
-fn attempt(mem: &mut [u8], slot: Slot, first: Endpoint, pointer: u64, bsr: bool) -> Addressing
+pub fn attempt(mem: &mut [u8], slot: Slot, first: Endpoint, pointer: u64, bsr: bool) -> Addressing
     requires { ⌜ (slot .state ≡ Default → (slot .base + 64 ≤ length (now mem)) × (isDisabled first ≡ false)) ⌝ }
     ensures { λ r. ⌜ Addresses first (addressing slot pointer bsr) (now (mem .entry)) r (now (mem .exit)) ⌝ }
 {
@@ -133,6 +133,29 @@ fn attempt(mem: &mut [u8], slot: Slot, first: Endpoint, pointer: u64, bsr: bool)
     }
 }
 
+// The table with both records of the device, and the command's answer.
+pub fn applied(t: Table, id: u64, done: Device) -> Outcome
+    requires { ⌜ (1 ≤ id) × (id ≤ 16) ⌝ }
+    ensures { λ r. ⌜ r ≡ addressed t id done ⌝ }
+{
+    let k = ((id - 1) * 31) as usize;
+    let launched = done.endpoint;
+    let addressed = done.slot;
+    let mut u = t;
+    u.endpoints[k] = launched;
+    let j = (id - 1) as usize;
+    u.slots[j] = addressed;
+    outcome::success(
+        u,
+        Tally {
+            launched: 2,
+            terminated: done.terminated,
+            port: done.port,
+            stored: done.stored,
+        },
+    )
+}
+
 pub fn address_device(
     t: Table,
     mem: &mut [u8],
@@ -150,19 +173,5 @@ pub fn address_device(
         Addressing::Refused(code) => return scan::refused(t, code),
         Addressing::Done(done) => done,
     };
-    let launched = done.endpoint;
-    let addressed = done.slot;
-    let mut u = t;
-    u.endpoints[k] = launched;
-    let j = (id - 1) as usize;
-    u.slots[j] = addressed;
-    outcome::success(
-        u,
-        Tally {
-            launched: 2,
-            terminated: done.terminated,
-            port: done.port,
-            stored: done.stored,
-        },
-    )
+    applied(t, id, done)
 }

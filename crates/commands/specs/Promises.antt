@@ -1,24 +1,25 @@
 -- What the commands promise, and what their parts do.
 -- Assumes nothing.
 use mathlib.Core.Path.{_≡_}
-use mathlib.Core.Bool.{Bool, true, false}
+use mathlib.Core.Bool.{Bool, true, false, cond}
 use lib.Dec.{leb}
-use Prim.Native.Nat.{ℕ, _+_, _-_, _*_, _≤_}
+use Prim.Native.Nat.{ℕ, _+_, _*_, _≤_}
 use lib.ListN.{length}
 use Rattle.guest.specs.Bytes.{_⊕_, setBits}
 use Rattle.guest.specs.Prog.{Mem, Prog, done, run, bind, Ends, Result, ok, andThen}
 use Rattle.commands.specs.Types.{Input, Endpoint, SlotState, Addressed, Slot, Table, Outcome}
-use Rattle.definition.specs.Table.{slotNumber, withEndpoint}
+use Rattle.definition.specs.Table.{slotNumber, isDisabled, withEndpoint}
 use Rattle.definition.specs.Steps.{step}
 use Rattle.definition.specs.Walks.{begin}
-use Rattle.definition.specs.Commands.{Told, onEndpoint, stepped, usbTypes, plan, settled, deconfigure, dropAndAdd, finish, reconfigure}
+use Rattle.definition.specs.Commands.{Told, onEndpoint, stepped, usbTypes, settled, deconfigure, dropAndAdd, finish, reconfigure}
 use Rattle.definition.specs.Calls.{Call, counted, told, prog, Meets}
-use Rattle.walks.specs.Promises.{walk, Spaces}
-use Rattle.scan.specs.Heads.{refusal}
+use Rattle.walks.specs.Promises.{Spaces}
+use Rattle.scan.specs.Heads.{recordAt, refusal}
 use Rattle.commands.specs.declared.configure.Flags.{Flags}
 use Rattle.commands.specs.declared.configure.Plan.{Plan}
 use Rattle.commands.specs.declared.configure.Plan.the-variants.{Refused, Walk}
 use Rattle.commands.specs.declared.outcome.Tally.{Tally}
+use Rattle.commands.specs.declared.reach.Settled.{Settled}
 
 -- success, with what was launched, terminated and stored
 abbrev pub tallied : Table → Tally → Outcome
@@ -66,6 +67,30 @@ reaching absent id i input s t =
     onEndpoint absent t id i λ e.
     andThen (step e input (s .base ⊕ 32 * i)) λ r.
     done (ok (stepped r, withEndpoint t id i (r .endpoint)))
+
+-- the table with the endpoint's record, and the call's answer
+abbrev pub appliedTo : Table → ℕ → ℕ → Settled → Outcome
+appliedTo t id i r =
+    record {
+      table = withEndpoint t id i (r .endpoint);
+      answer =
+          record {
+            code = r .code;
+            slot = 0;
+            launched = 0;
+            terminated = 0;
+            port = 0;
+            stored = r .stored;
+            submit = r .submit;
+            cancel = r .cancel;
+          };
+    }
+
+-- the call was answered, for any id and table whose record of endpoint i is e; an endpoint that is not refused is enabled
+pub record Reaches (e : Endpoint) (s : Slot) (i : ℕ) (input : Input) (absent : ℕ) (m : Mem) (r : Settled) (m′ : Mem) : Type 0 where
+  pub answers : (id : ℕ) (t : Table) → recordAt t id i ≡ e
+      → Settles (reaching absent id i input s t) t m (cond (r .refused) (refusal t (r .code)) (appliedTo t id i r)) m′
+  pub enabled : r .refused ≡ false → isDisabled e ≡ false
 
 -- ---- Configure Endpoint, its slot being found
 

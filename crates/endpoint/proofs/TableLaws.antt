@@ -1,13 +1,14 @@
 -- The constant table of steps is the definition's, entry by entry.
 -- Assumes nothing.
 use mathlib.Core.Path.{_≡_, refl, sym, ap, _∙_}
-use mathlib.Core.Bool.{Bool, true, false, _&&_}
+use mathlib.Core.Bool.{Bool, true, false, not, _&&_}
 use mathlib.Core.List.{List, [], _∷_}
 use Prim.Native.Nat.{ℕ, zero, suc, _+_, _-_, _≤_, _<_}
 use native.Mathlib.Nat.{add-zero, zero-add, add-suc, suc-add, le-of-suc-le-suc, not-suc-le-zero}
 use native.Mathlib.Omega.{arith}
 use borrow.Author.Tests.{leb-true}
-use lib.Dec.{leb, lit<, lit≤}
+use lib.Bits.{bitAnd}
+use lib.Dec.{leb, eqb, lit<, lit≤}
 use lib.ListN.{getD}
 use Rattle.definition.specs.declared.EndpointState.{EndpointState}
 use Rattle.definition.specs.declared.EndpointState.the-variants.{Disabled, Waiting, InFlight, Halted, Error, StoppedContinuable, Stopped}
@@ -66,22 +67,32 @@ code-small s k =
     let small : Row → Bool = λ r. leb (r .code) 196 in
     leb-true (rowAt s k .code) 196 (passes small (getD steps s []) k wrong (passes (every small) steps s [] refl refl) refl)
 
+-- ---- the row of an entry
+
+-- one of the effects is among them
+abbrev has : ℕ → ℕ → Bool
+has effects one = not (eqb (bitAnd effects one) 0)
+
+-- the row that an entry stands for
+abbrev pub rowFrom : Entry → Row
+rowFrom e =
+    record {
+      code = e .code;
+      moves = has (e .effects) 1;
+      next = stateFrom (e .next);
+      stores = has (e .effects) 2;
+      byte = e .byte;
+      takes = has (e .effects) 4;
+      looks = has (e .effects) 8;
+      saves = has (e .effects) 16;
+      cancels = has (e .effects) 32;
+    }
+
+-- .. is the definition's, at each of its fifty-four places
+pub row-back : (s k : ℕ) → s < 6 → k < 9 → rowFrom (entryFrom (rowAt s k)) ≡ rowAt s k
+row-back s k h l = sym (at₂ (λ s k. rowFrom (entryFrom (rowAt s k))) 6 9 s k [] wrong h l)
+
 -- ---- numbers of states and inputs
-
--- the state of a state's number
-pub state-back : (s : EndpointState) → stateFrom (endpointNumber s) ≡ s
-state-back Disabled = refl
-state-back Waiting = refl
-state-back InFlight = refl
-state-back Halted = refl
-state-back Error = refl
-state-back StoppedContinuable = refl
-state-back Stopped = refl
-
--- the row of a row's entry
-pub row-back : {e : Entry} {n : EndpointState} (r : Row) → e ≡ entryFrom r → n ≡ stateFrom (e .next)
-    → record { code = e .code; moves = e .moves; next = n; stores = e .stores; byte = e .byte; takes = e .takes; looks = e .looks; saves = e .saves; cancels = e .cancels } ≡ r
-row-back r d k = rw (k, d, state-back (r .next))
 
 -- the numbers from 6 on are taken for Stopped
 pub six-up : (n : ℕ) → 6 ≤ n → Stopped ≡ stateFrom n

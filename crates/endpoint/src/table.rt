@@ -23,160 +23,113 @@ const STOPPED_CONTINUABLE: u8 = 5;
 
 const STOPPED: u8 = 6;
 
-// An entry as the constant has it: definition's `Row`, with the next state by its number.
+// The effects, by the names of definition's `Row`: an entry has a sum of these.
+const MOVES: u8 = 1;
+
+const STORES: u8 = 2;
+
+const TAKES: u8 = 4;
+
+const LOOKS: u8 = 8;
+
+const SAVES: u8 = 16;
+
+const CANCELS: u8 = 32;
+
+// An entry as the constant has it: definition's `Row`, with the next state by its number and the effects as one number.
 struct Entry {
     code: u8,
-    moves: bool,
     next: u8,
-    stores: bool,
     byte: u8,
-    takes: bool,
-    looks: bool,
-    saves: bool,
-    cancels: bool,
+    effects: u8,
 }
 
 // The place is taken; a TRB found there gives In flight and submit, else Waiting.
 const LOOK: Entry = Entry {
     code: 0,
-    moves: true,
     next: WAITING,
-    stores: false,
     byte: 0,
-    takes: true,
-    looks: true,
-    saves: false,
-    cancels: false,
+    effects: MOVES | TAKES | LOOKS,
 };
 
 // Byte 1; look.
 const RESUME: Entry = Entry {
     code: 0,
-    moves: true,
     next: WAITING,
-    stores: true,
     byte: 1,
-    takes: true,
-    looks: true,
-    saves: false,
-    cancels: false,
+    effects: MOVES | STORES | TAKES | LOOKS,
 };
 
 // Byte 3, save; Stopped.
 const STOP: Entry = Entry {
     code: 1,
-    moves: true,
     next: STOPPED,
-    stores: true,
     byte: 3,
-    takes: false,
-    looks: false,
-    saves: true,
-    cancels: false,
+    effects: MOVES | STORES | SAVES,
 };
 
 // Byte 3, save, cancel; Stopped-continuable.
 const BREAK_OFF: Entry = Entry {
     code: 1,
-    moves: true,
     next: STOPPED_CONTINUABLE,
-    stores: true,
     byte: 3,
-    takes: false,
-    looks: false,
-    saves: true,
-    cancels: true,
+    effects: MOVES | STORES | SAVES | CANCELS,
 };
 
 // The place is taken if given; byte 2, save; Halted.
 const HALT: Entry = Entry {
     code: 0,
-    moves: true,
     next: HALTED,
-    stores: true,
     byte: 2,
-    takes: true, // If given.
-    looks: false,
-    saves: true,
-    cancels: false,
+    effects: MOVES | STORES | TAKES | SAVES, // Takes if given.
 };
 
 // Byte 4, save; Error.
 const FAIL: Entry = Entry {
     code: 0,
-    moves: true,
     next: ERROR,
-    stores: true,
     byte: 4,
-    takes: false,
-    looks: false,
-    saves: true,
-    cancels: false,
+    effects: MOVES | STORES | SAVES,
 };
 
 // Byte 3, take, save; Stopped.
 const AIM: Entry = Entry {
     code: 1,
-    moves: true,
     next: STOPPED,
-    stores: true,
     byte: 3,
-    takes: true,
-    looks: false,
-    saves: true,
-    cancels: false,
+    effects: MOVES | STORES | TAKES | SAVES,
 };
 
 // Byte 0; disabled, with a record that is all zero.
 const END: Entry = Entry {
     code: 1,
-    moves: true,
     next: DISABLED,
-    stores: true,
     byte: 0,
-    takes: true,
-    looks: false,
-    saves: false,
-    cancels: false,
+    effects: MOVES | STORES | TAKES,
 };
 
 // A doorbell with no effect.
 const IDLE: Entry = Entry {
     code: 0,
-    moves: false,
     next: DISABLED,
-    stores: false,
     byte: 0,
-    takes: false,
-    looks: false,
-    saves: false,
-    cancels: false,
+    effects: 0,
 };
 
 // A command that the state does not take.
 const WRONG: Entry = Entry {
     code: 19,
-    moves: false,
     next: DISABLED,
-    stores: false,
     byte: 0,
-    takes: false,
-    looks: false,
-    saves: false,
-    cancels: false,
+    effects: 0,
 };
 
 // A host event that the state does not take.
 const STRAY: Entry = Entry {
     code: 196,
-    moves: false,
     next: DISABLED,
-    stores: false,
     byte: 0,
-    takes: false,
-    looks: false,
-    saves: false,
-    cancels: false,
+    effects: 0,
 };
 
 // Doorbell, Stop, Reset, Set Dequeue, Terminate, Ok, Stall, Transaction Error, TRB Error.
@@ -252,14 +205,14 @@ fn row_at(s: usize, k: usize) -> Row
     let e = entry_at(s, k);
     Row {
         code: e.code,
-        moves: e.moves,
+        moves: e.effects & MOVES != 0,
         next: state_from(e.next),
-        stores: e.stores,
+        stores: e.effects & STORES != 0,
         byte: e.byte,
-        takes: e.takes,
-        looks: e.looks,
-        saves: e.saves,
-        cancels: e.cancels,
+        takes: e.effects & TAKES != 0,
+        looks: e.effects & LOOKS != 0,
+        saves: e.effects & SAVES != 0,
+        cancels: e.effects & CANCELS != 0,
     }
 }
 

@@ -22,7 +22,9 @@ use Rattle.definition.specs.Rules.{Opened}
 use Rattle.definition.proofs.HeadLaws.{slot-opens}
 use Rattle.scan.specs.declared.Head.{Head}
 use Rattle.scan.specs.Heads.{headFor, refusal}
-use Rattle.scan.proofs.OpeningLaws.{refuses-at-once, meets-as, refuses-head, refuses-absent, head-found, opened-slot, on-slot}
+use Rattle.scan.specs.Records.{firstOf}
+use Rattle.scan.proofs.ScanLaws.{first-is, record-is}
+use Rattle.scan.proofs.OpeningLaws.{refuses-at-once, meets-as, refuses-head, refuses-absent, head-found, head-record, opened-slot, on-slot}
 use Rattle.commands.specs.Promises.{Settles, reaching}
 use Rattle.formed.specs.Promises.{Ready}
 
@@ -62,13 +64,13 @@ reaches noSlot noEndpoint id i input = record { part = λ len t s. reaching noEn
 -- ---- the refusals
 
 module _ {p : ℕ → Table → Prog (Result Told)} {id absent : ℕ} (k : Slotted p id absent) {t : Table} {m : Mem} where
-  module _ {h : Head} (e : h ≡ headFor t (length m) id) where
+  module _ (i : ℕ) {h : Head} (e : h ≡ headFor t (length m) id i) where
     -- 198 or 194
     pub head-refused : (h .code ≡ 0 → ⊥) → Settles (p (length m) t) t m (refusal t (h .code)) m
-    head-refused n = meets-as t (k .is (length m) t) (refuses-head t (length m) id e absent (k .part (length m) t) m n)
+    head-refused n = meets-as t (k .is (length m) t) (refuses-head t (length m) id i e absent (k .part (length m) t) m n)
 
     pub absent-refused : h .code ≡ 0 → h .found ≡ Nothing → Settles (p (length m) t) t m (refusal t absent) m
-    absent-refused z w = meets-as t (k .is (length m) t) (refuses-absent t (length m) id e absent (k .part (length m) t) m z w)
+    absent-refused z w = meets-as t (k .is (length m) t) (refuses-absent t (length m) id i e absent (k .part (length m) t) m z w)
 
   pub ready-refused : Ready t m → {l : Lookup} → l ≡ lookup t id → l ≡ Nothing → Settles (p (length m) t) t m (refusal t absent) m
   unfolding onSlot formed lent
@@ -81,10 +83,14 @@ module _ {p : ℕ → Table → Prog (Result Told)} {id absent : ℕ} (k : Slott
 
 -- ---- a slot that was found
 
-pub head-opens : {t : Table} {m : Mem} {id : ℕ} {h : Head} {s : Slot} → h ≡ headFor t (length m) id → h .code ≡ 0 → h .found ≡ Used s → Opened t m id s
-head-opens {t} {m} {id} e z w =
-    let o = opened-slot t (length m) id e z w in
-    record { formed = o .formed; size = o .size; used = head-found t (length m) id e z ∙ w }
+pub head-opens : {t : Table} {m : Mem} {id : ℕ} (i : ℕ) {h : Head} {s : Slot} → h ≡ headFor t (length m) id i → h .code ≡ 0 → h .found ≡ Used s → Opened t m id s
+head-opens {t} {m} {id} i e z w =
+    let o = opened-slot t (length m) id i e z w in
+    record { formed = o .formed; size = o .size; used = head-found t (length m) id i e z ∙ w }
+
+-- with the record of its endpoint 1
+pub head-first : (t : Table) (len id : ℕ) {h : Head} {s : Slot} → h ≡ headFor t len id 1 → h .code ≡ 0 → h .found ≡ Used s → h .endpoint ≡ firstOf t id
+head-first t len id e z w = head-record t len id 1 e z w ∙ record-is t id 1 refl ∙ first-is t id
 
 pub ready-opens : {t : Table} {m : Mem} {id : ℕ} {l : Lookup} {s : Slot} → Ready t m → l ≡ lookup t id → l ≡ Used s → Opened t m id s
 ready-opens r e w = record { formed = r .formed; size = r .size; used = sym e ∙ w }

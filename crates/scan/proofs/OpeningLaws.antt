@@ -2,19 +2,20 @@
 -- meaning p: `prog c len t` is `telling t (meaning c len t)`.
 -- Assumes nothing.
 use mathlib.Core.Path.{_≡_, refl, sym, ap, _∙_}
-use mathlib.Core.Bool.{Bool, true, false, not, cond, _&&_}
+use mathlib.Core.Bool.{Bool, true, false}
 use Prim.Native.Nat.{ℕ, _≤_}
 use native.Mathlib.Omega.{arith}
-use borrow.Author.Tests.{leb-true, eqb-true, not-true, eq-eqb}
-use lib.Dec.{leb, eqb}
+use borrow.Author.Tests.{eqb-true, eq-eqb}
+use lib.Dec.{eqb}
 use Rattle.guest.specs.Prog.{Mem, Prog, done, Ran, run, Ends, choose, bind, Result, ok, refuse}
 use Rattle.guest.proofs.RunLaws.{run-done, choose-yes, choose-no, after}
-use Rattle.guest.proofs.ListLaws.{and-left, and-right}
+use Rattle.definition.proofs.EndedLaws.{used-slot}
 use Rattle.definition.specs.Table.{isFree, slotOf, lookup, wellFormed}
 use Rattle.definition.specs.Commands.{Told, formed, lent, found, onSlot}
 use Rattle.definition.specs.Calls.{told, counted, Meets}
 use Rattle.scan.specs.Types.{Free, Slot, Table, Lookup, Used, Nothing, Answer, Outcome}
-use Rattle.scan.specs.Heads.{judged, codeFor, headFor, refusal}
+use Rattle.scan.specs.Heads.{judged, codeFor, recordAt, headOf, headFor, refusal}
+use Rattle.scan.proofs.ScanLaws.{head-code}
 use Rattle.scan.specs.declared.Head.{Head}
 
 abbrev pub telling : Table → Prog (Result Told) → Prog Told
@@ -112,43 +113,41 @@ not-free : (s : Slot) → isFree s ≡ false → s .state ≡ Free → ⊥
 not-free s f e = let z : _≡_ {A = Bool} true false = rw e at f in let y : _≡_ {A = ℕ} 0 1 = cc in omega arith
 
 pub on-slot : (t : Table) (len id : ℕ) {s : Slot} → Lent t len → lookup t id ≡ Used s → OnSlot t len id s
-unfolding lookup
-on-slot t len id {s} l e = by (leb 1 id && leb id 16 && not (isFree (slotOf t id))) refl e
-  where
-    by : (b : Bool) → (leb 1 id && leb id 16 && not (isFree (slotOf t id))) ≡ b → cond b (Used (slotOf t id)) Nothing ≡ Used s → OnSlot t len id s
-    by true h q =
-        let both = and-left (leb 1 id && leb id 16) _ h in
-        let same : slotOf t id ≡ s = cc in
-        record {
-          formed = l .formed;
-          size = l .size;
-          low = leb-true _ _ (and-left (leb 1 id) _ both);
-          high = leb-true _ _ (and-right (leb 1 id) _ both);
-          slot = same;
-          used = not-free s (ap isFree (sym same) ∙ not-true _ (and-right (leb 1 id && leb id 16) _ h));
-        }
-    by false h q = let z : _≡_ {A = ℕ} 0 1 = cc in absurd (omega arith)
+on-slot t len id {s} l e =
+    let q = used-slot t id s e in
+    record { formed = l .formed; size = l .size; low = q .1 .0; high = q .1 .1; slot = q .0; used = not-free s (q .2) }
 
-module _ (t : Table) (len id : ℕ) {h : Head} (e : h ≡ headFor t len id) where
-  head-code : h .code ≡ codeFor t len
+found-of : (t : Table) (id i : ℕ) (l : Lookup) → headOf t id i l .found ≡ l
+found-of t id i Nothing = refl
+found-of t id i (Used s) = refl
+
+module _ (t : Table) (len id i : ℕ) {h : Head} (e : h ≡ headFor t len id i) where
+  code-is : h .code ≡ codeFor t len
+  code-is = ap (λ (x : Head). x .code) e ∙ head-code t len id i
+
+  -- it is made from what the look found
+  head-is : h .code ≡ 0 → h ≡ headOf t id i (lookup t id)
   unfolding headFor
-  head-code = ap (λ (x : Head). x .code) e
+  head-is z = e ∙ rw (sym code-is ∙ z)
 
   pub head-found : h .code ≡ 0 → lookup t id ≡ h .found
-  unfolding headFor
-  head-found z = sym (ap (λ (x : Head). x .found) e ∙ rw (sym head-code ∙ z))
+  head-found z = sym (ap (λ (x : Head). x .found) (head-is z) ∙ found-of t id i (lookup t id))
+
+  -- the endpoint's record, with the slot
+  pub head-record : h .code ≡ 0 → {s : Slot} → h .found ≡ Used s → h .endpoint ≡ recordAt t id i
+  head-record z w = ap (λ (x : Head). x .endpoint) (head-is z) ∙ ap (λ (l : Lookup). headOf t id i l .endpoint) (head-found z ∙ w)
 
   -- past 198 and 194 the look for the slot decides
   head-passes : (absent : ℕ) (f : Slot → Prog (Result Told)) → h .code ≡ 0 → {l : Lookup} → h .found ≡ l
       → onSlot absent t len id f ≡ found l (done (refuse absent)) f
   unfolding onSlot
   head-passes absent f z w =
-      passes-lent t len head-code (found (lookup t id) (done (refuse absent)) f) z ∙ ap (λ (l : Lookup). found l (done (refuse absent)) f) (head-found z ∙ w)
+      passes-lent t len code-is (found (lookup t id) (done (refuse absent)) f) z ∙ ap (λ (l : Lookup). found l (done (refuse absent)) f) (head-found z ∙ w)
 
   -- 198 or 194
   pub refuses-head : (absent : ℕ) (f : Slot → Prog (Result Told)) (m : Mem) → (h .code ≡ 0 → ⊥) → Meets (telling t (onSlot absent t len id f)) m (refusal t (h .code)) m
   unfolding onSlot
-  refuses-head absent f m n = refuses-lent t len head-code (found (lookup t id) (done (refuse absent)) f) m n
+  refuses-head absent f m n = refuses-lent t len code-is (found (lookup t id) (done (refuse absent)) f) m n
 
   -- the code for a slot that is not there
   pub refuses-absent : (absent : ℕ) (f : Slot → Prog (Result Told)) (m : Mem) → h .code ≡ 0 → h .found ≡ Nothing → Meets (telling t (onSlot absent t len id f)) m (refusal t absent) m
@@ -159,4 +158,4 @@ module _ (t : Table) (len id : ℕ) {h : Head} (e : h ≡ headFor t len id) wher
   opened absent f z w = head-passes absent f z w
 
   pub opened-slot : {s : Slot} → h .code ≡ 0 → h .found ≡ Used s → OnSlot t len id s
-  opened-slot z w = on-slot t len id (is-lent t len head-code z) (head-found z ∙ w)
+  opened-slot z w = on-slot t len id (is-lent t len code-is z) (head-found z ∙ w)

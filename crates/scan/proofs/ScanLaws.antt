@@ -2,23 +2,25 @@
 -- numbers, the head of a call.
 -- Assumes nothing.
 use mathlib.Core.Path.{_≡_, refl, sym, ap, _∙_}
-use mathlib.Core.Bool.{Bool, true, false, not, _&&_, _||_}
+use mathlib.Core.Bool.{Bool, true, false, not, cond, _&&_, _||_}
 use Prim.Native.Nat.{ℕ, _+_, _-_, _*_, _≤_, _<_}
 use native.Mathlib.Nat.{add-zero}
 use native.Mathlib.Omega.{arith}
-use borrow.Author.Tests.{leb-true, leb-false, le-leb, lt-leb, ne-eqb, eqb-true, eqb-false}
+use borrow.Author.Tests.{not-true, not-false, leb-true, leb-false, le-leb, lt-leb, eq-eqb, ne-eqb, eqb-true, eqb-false}
+use mir.Val.{boolByte}
 use lib.Bits.{bitOr, or-add-and, and-le-r}
 use lib.Dec.{leb, eqb}
 use lib.ListN.{getD}
 use Rattle.guest.specs.Bytes.{inside, count}
 use Rattle.guest.specs.Prog.{all}
 use Rattle.guest.proofs.LoopLaws.{Testing, testing-begins, testing-goes, testing-ends, testing-fails}
-use Rattle.guest.proofs.ListLaws.{count-none, count-first}
+use Rattle.guest.proofs.ListLaws.{count-none, count-first, and-left, and-right}
 use Rattle.guest.proofs.RunLaws.{is-inside, is-outside}
-use Rattle.definition.specs.Table.{endpointNumber, disabled, endpointOf, slotOf, isZero, usedOk, noEndpoint, slotOkIn, slotOk, wellFormed, lookup}
-use Rattle.scan.specs.Types.{Endpoint, SlotState, Free, Enabled, Default, Addressed, Configured, Slot, Table, Lookup, Nothing}
-use Rattle.scan.specs.Records.{firstOf, hasContexts, inUse, ownIn, ownOk, recordOk, clear}
-use Rattle.scan.specs.Heads.{codeFor, headFor, foundIn}
+use Rattle.definition.proofs.EndedLaws.{used-slot}
+use Rattle.definition.specs.Table.{endpointNumber, disabled, endpointOf, slotOf, isZero, endpointOk, usedOk, noEndpoint, slotOkIn, slotOk, wellFormed, lookup}
+use Rattle.scan.specs.Types.{Endpoint, SlotState, Free, Enabled, Default, Addressed, Configured, Slot, Table, Lookup, Used, Nothing}
+use Rattle.scan.specs.Records.{firstOf, hasContexts, inUse, ownIn, ownOk, clear}
+use Rattle.scan.specs.Heads.{judged, codeFor, recordAt, nothingWith, headOf, headFor, foundIn}
 
 -- ---- one record
 
@@ -59,20 +61,17 @@ clear-or a c b x d y =
     (ap (λ (q : Bool). q && (eqb b 0 && eqb y 0)) (swap (eqb a 0) (not c) (eqb x 0) (not d))
     ∙ swap (eqb a 0 && not c) (eqb b 0) (eqb x 0 && not d) (eqb y 0))
 
--- a cycle that is set; else the numbers decide
-pub clear-set : (a b : ℕ) {c : Bool} → c ≡ true → clear a c b ≡ false
-clear-set a b e = rw e (by (eqb a 0))
-  where
-    by : (q : Bool) → (q && false && eqb b 0) ≡ false
-    by true = refl
-    by false = refl
+-- the three as one number
+pub clear-all : (a : ℕ) (c : Bool) (b : ℕ) → eqb (bitOr (bitOr a (boolByte c)) b) 0 ≡ clear a c b
+clear-all a true b = or-zero (bitOr a 1) b ∙ ap (λ (q : Bool). q && eqb b 0) (or-zero a 1)
+clear-all a false b = or-zero (bitOr a 0) b ∙ ap (λ (q : Bool). q && eqb b 0) (or-zero a 0)
 
-pub clear-rest : (a b : ℕ) {c : Bool} → c ≡ false → clear a c b ≡ eqb (bitOr a b) 0
-clear-rest a b e = rw (e, or-zero a b) (by (eqb a 0))
-  where
-    by : (q : Bool) → (q && true && eqb b 0) ≡ (q && eqb b 0)
-    by true = refl
-    by false = refl
+-- what `faulty` tells
+pub faulty-is : (a : ℕ) (c : Bool) (b : ℕ) → not (clear a c b) ≡ true → clear a c b ≡ false
+faulty-is a c b e = not-true (clear a c b) e
+
+pub clear-is : (a : ℕ) (c : Bool) (b : ℕ) → not (clear a c b) ≡ false → clear a c b ≡ true
+clear-is a c b e = not-false (clear a c b) e
 
 -- a record's state as a number, its cycle and its pointer
 pub clear-record : (e : Endpoint) {n : ℕ} → n ≡ endpointNumber (e .state) → clear n (e .cycle) (e .pointer) ≡ isZero e
@@ -109,7 +108,8 @@ scan-gathers f a c b x d y s h e = scan-goes f s h _ (clear-or a c b x d y ∙ a
 
 -- the test of endpoint i's record, in a slot that has contexts from `base` on or has none
 abbrev pub testOf : Bool → ℕ → ℕ → Table → ℕ → ℕ → Bool
-testOf contexts length base t id i = recordOk contexts length base i (endpointOf t id i)
+testOf true length base t id i = endpointOk length base i (endpointOf t id i)
+testOf false length base t id i = isZero (endpointOf t id i)
 
 pub first-is : (t : Table) (id : ℕ) → endpointOf t id 1 ≡ firstOf t id
 unfolding endpointOf
@@ -118,7 +118,7 @@ first-is t id = ap (λ (k : ℕ). getD (t .endpoints) k disabled) (add-zero ((id
 slot-in : (st : SlotState) (s : Slot) (t : Table) (id : ℕ)
     → (ownIn st s (endpointOf t id 1) (t .length) && all (count 31 1) (testOf (hasContexts st) (t .length) (s .base) t id))
     ≡ slotOkIn st s t id
-unfolding inUse recordOk usedOk noEndpoint
+unfolding inUse usedOk noEndpoint
 slot-in Free s t id = refl
 slot-in Enabled s t id = refl
 slot-in Default s t id = refl
@@ -159,13 +159,66 @@ pub found-is : (t : Table) (id : ℕ) → foundIn (t .slots) id ≡ lookup t id
 unfolding foundIn lookup slotOf
 found-is t id = refl
 
-module _ (t : Table) (len id : ℕ) {code : ℕ} (e : code ≡ codeFor t len) where
-  -- a refusal
-  pub head-no : (code ≡ 0 → ⊥) → record { code = code; found = Nothing } ≡ headFor t len id
-  unfolding headFor
-  head-no n = rw (← e, ne-eqb code 0 n)
+module _ (t : Table) (len id i : ℕ) where
+  -- 198
+  pub head-malformed : false ≡ wellFormed t → nothingWith 198 ≡ headFor t len id i
+  unfolding headFor codeFor
+  head-malformed e = rw (← e)
 
-  -- code 0 and what the look found
-  pub head-yes : {l : Lookup} → code ≡ 0 → l ≡ lookup t id → record { code = 0; found = l } ≡ headFor t len id
-  unfolding headFor
-  head-yes z f = rw (← e, z, f)
+  -- 194
+  pub head-other : true ≡ wellFormed t → (t .length ≡ len → ⊥) → nothingWith 194 ≡ headFor t len id i
+  unfolding headFor codeFor
+  head-other e n = rw (← e, ne-eqb _ _ n)
+
+  -- code 0, and what the look found
+  head-of : true ≡ wellFormed t → t .length ≡ len → (l : Lookup) → l ≡ lookup t id → headOf t id i l ≡ headFor t len id i
+  unfolding headFor codeFor
+  head-of e z l f = rw (← e, eq-eqb _ _ z, f)
+
+  pub head-absent : true ≡ wellFormed t → t .length ≡ len → Nothing ≡ lookup t id → nothingWith 0 ≡ headFor t len id i
+  head-absent e z f = head-of e z Nothing f
+
+  pub head-used : true ≡ wellFormed t → t .length ≡ len → {s : Slot} → lookup t id ≡ Used s → {e : Endpoint} → recordAt t id i ≡ e
+      → record { code = 0; found = Used s; endpoint = e } ≡ headFor t len id i
+  head-used e z {s} f r = ap (λ (x : Endpoint). record { code = 0; found = Used s; endpoint = x }) (sym r) ∙ head-of e z (Used s) (sym f)
+
+-- the record of an endpoint
+module _ (t : Table) (id i : ℕ) where
+  pub record-none : (leb 1 i && leb i 31) ≡ false → recordAt t id i ≡ disabled
+  unfolding recordAt
+  record-none e = rw e
+
+  pub record-is : (leb 1 i && leb i 31) ≡ true → recordAt t id i ≡ endpointOf t id i
+  unfolding recordAt
+  record-is e = rw e
+
+  -- where it stands
+  pub bounds : {s : Slot} → lookup t id ≡ Used s → (leb 1 i && leb i 31) ≡ true → (1 ≤ id) × (id ≤ 16) × (1 ≤ i) × (i ≤ 31)
+  bounds {s} f e =
+      let u = used-slot t id s f .1 in
+      (u .0, u .1, leb-true 1 i (and-left (leb 1 i) _ e), leb-true i 31 (and-right (leb 1 i) _ e))
+
+-- what the code tells of the table
+pub code-formed : (t : Table) (len : ℕ) {code : ℕ} → code ≡ codeFor t len → not (eqb code 198) ≡ wellFormed t
+unfolding codeFor
+code-formed t len e = rw e (by (wellFormed t) (eqb (t .length) len))
+  where
+    by : (b d : Bool) → not (eqb (judged b d) 198) ≡ b
+    by true true = refl
+    by true false = refl
+    by false d = refl
+
+pub head-code : (t : Table) (len id i : ℕ) → headFor t len id i .code ≡ codeFor t len
+unfolding headFor
+head-code t len id i = by (codeFor t len) (lookup t id)
+  where
+    found : (l : Lookup) → headOf t id i l .code ≡ 0
+    found Nothing = refl
+    found (Used s) = refl
+
+    by : (c : ℕ) (l : Lookup) → cond (eqb c 0) (headOf t id i l) (nothingWith c) .code ≡ c
+    by c l = on (eqb c 0) refl
+      where
+        on : (q : Bool) → eqb c 0 ≡ q → cond q (headOf t id i l) (nothingWith c) .code ≡ c
+        on true e = found l ∙ sym (eqb-true c 0 e)
+        on false e = refl

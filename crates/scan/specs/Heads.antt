@@ -5,8 +5,8 @@ use mathlib.Core.List.{List}
 use Prim.Native.Nat.{ℕ, _-_}
 use lib.Dec.{leb, eqb}
 use lib.ListN.{getD}
-use Rattle.scan.specs.Types.{Slot, Table, Lookup, Used, Nothing, Outcome}
-use Rattle.definition.specs.Table.{isFree, free, wellFormed, lookup}
+use Rattle.scan.specs.Types.{Endpoint, Slot, Table, Lookup, Used, Nothing, Outcome}
+use Rattle.definition.specs.Table.{isFree, free, disabled, endpointOf, wellFormed, lookup}
 use Rattle.definition.specs.Commands.{answer}
 use Rattle.scan.specs.declared.Head.{Head}
 
@@ -18,9 +18,22 @@ judged wellFormed sameLength = cond wellFormed (cond sameLength 0 194) 198
 unfoldable pub codeFor : Table → ℕ → ℕ
 codeFor t len = judged (wellFormed t) (eqb (t .length) len)
 
--- that code; and where it is 0 what the look for the slot finds
-unfoldable pub headFor : Table → ℕ → ℕ → Head
-headFor t len id = record { code = codeFor t len; found = cond (eqb (codeFor t len) 0) (lookup t id) Nothing }
+-- the record of endpoint i of slot id; a disabled endpoint's where no endpoint has the number i
+unfoldable pub recordAt : Table → ℕ → ℕ → Endpoint
+recordAt t id i = cond (leb 1 i && leb i 31) (endpointOf t id i) disabled
+
+-- a code, and nothing found
+abbrev pub nothingWith : ℕ → Head
+nothingWith code = record { code = code; found = Nothing; endpoint = disabled }
+
+-- what the look for the slot found, and the endpoint's record with it
+abbrev pub headOf : Table → ℕ → ℕ → Lookup → Head
+headOf t id i Nothing = nothingWith 0
+headOf t id i (Used s) = record { code = 0; found = Used s; endpoint = recordAt t id i }
+
+-- the code of a call that lends len bytes; and where it is 0 what was found of slot id and its endpoint i
+unfoldable pub headFor : Table → ℕ → ℕ → ℕ → Head
+headFor t len id i = cond (eqb (codeFor t len) 0) (headOf t id i (lookup t id)) (nothingWith (codeFor t len))
 
 -- the slot of this id among the table's slots
 unfoldable pub foundIn : List Slot → ℕ → Lookup

@@ -1,12 +1,12 @@
 -- One slot's record or one endpoint's, as the scan tests it: the definition's tests, the slot's own part apart from its endpoints' records.
 -- Assumes nothing.
-use mathlib.Core.Bool.{Bool, not, cond, _&&_}
+use mathlib.Core.Bool.{Bool, not, _&&_}
 use Prim.Native.Nat.{ℕ, _-_, _*_}
 use lib.Dec.{eqb, ltb}
 use lib.ListN.{getD}
 use Rattle.guest.specs.Bytes.{inside}
 use Rattle.scan.specs.Types.{Endpoint, SlotState, Free, Enabled, Default, Addressed, Configured, Slot, Table}
-use Rattle.definition.specs.Table.{slotNumber, isDisabled, disabled, isZero, endpointOk}
+use Rattle.definition.specs.Table.{slotNumber, isDisabled, disabled}
 
 -- endpoint 1's record, where the code reads it in the flat run
 abbrev pub firstOf : Table → ℕ → Endpoint
@@ -30,10 +30,6 @@ ownIn Configured s first len = inUse s first len
 
 unfoldable pub ownOk : Slot → Endpoint → ℕ → Bool
 ownOk s first len = ownIn (s .state) s first len
-
--- the record of endpoint i, in a slot that has contexts or has none
-unfoldable pub recordOk : Bool → ℕ → ℕ → ℕ → Endpoint → Bool
-recordOk contexts len base i e = cond contexts (endpointOk len base i e) (isZero e)
 
 -- faults in which nothing is wrong
 abbrev pub clear : ℕ → Bool → ℕ → Bool

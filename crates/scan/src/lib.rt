@@ -3,67 +3,41 @@
 mod records;
 
 use definition::Answer;
+use definition::Endpoint;
+use definition::EndpointState;
 use definition::Lookup;
 use definition::Outcome;
 use definition::Slot;
 use definition::SlotState;
 use definition::Table;
 ghost use mathlib.Core.Path.{_≡_};
-ghost use lib.Dec.{eqb};
+ghost use mathlib.Core.Bool.{_&&_};
+ghost use lib.Dec.{leb, eqb};
 ghost use Rattle.definition.specs.Table as tables;
-ghost use Rattle.scan.specs.Heads.{judged, codeFor, headFor, foundIn, refusal};
+ghost use Rattle.scan.specs.Heads.{codeFor, headFor, foundIn, nothingWith, refusal};
 
-// How a call on a slot begins: a refusal's code and nothing; or code 0, and what the look for the slot found.
+// How a call begins: a refusal's code; or code 0, what the look for its slot found, and the record of its endpoint.
 pub struct Head {
     pub code: u64,
     pub found: Lookup,
+    pub endpoint: Endpoint,
 }
 
-// The table is well formed. What is wrong with a slot's records is gathered, and tested once for the slot.
-pub fn well_formed(t: Table) -> bool
-    ensures { λ r. ⌜ r ≡ tables.wellFormed t ⌝ }
+const DISABLED: Endpoint = Endpoint {
+    state: EndpointState::Disabled,
+    cycle: false,
+    pointer: 0,
+};
+
+// A code, and nothing found.
+fn nothing(code: u64) -> Head
+    ensures { λ r. ⌜ r ≡ nothingWith code ⌝ }
 {
-    let length = t.length;
-    if 16 < t.limit {
-        return false;
+    Head {
+        code,
+        found: Lookup::Nothing,
+        endpoint: DISABLED,
     }
-    if 1073741824 < length {
-        return false;
-    }
-    let mut id: u64 = 1;
-    while id < 17 {
-        let j = (id - 1) as usize;
-        let slot = t.slots[j];
-        let at = ((id - 1) * 31) as usize;
-        let first = t.endpoints[at];
-        if !records::slot_ok(slot, first, length) {
-            return false;
-        }
-        let state = slot.state;
-        let used = records::has_contexts(state);
-        let base = slot.base;
-        let mut flags: u64 = 0;
-        let mut cycles = false;
-        let mut pointers: u64 = 0;
-        let mut i: u64 = 1;
-        while i < 32 {
-            let k = ((id - 1) * 31 + (i - 1)) as usize;
-            let e = t.endpoints[k];
-            let wrong = records::faults_of(used, length, base, i, e);
-            flags = flags | wrong.flags;
-            cycles = cycles | wrong.cycle;
-            pointers = pointers | wrong.pointer;
-            i += 1;
-        }
-        if cycles {
-            return false;
-        }
-        if flags | pointers != 0 {
-            return false;
-        }
-        id += 1;
-    }
-    true
 }
 
 // A slot in this state is free.
@@ -100,46 +74,110 @@ pub fn lookup(t: Table, id: u64) -> Lookup
     find(slots, id)
 }
 
-// 198 for a malformed table, then 194 for a memory of another length than the table's, else 0.
-fn judge(formed: bool, length: u64, len: u64) -> u64
-    ensures { λ r. ⌜ r ≡ judged formed (eqb length len) ⌝ }
+// An endpoint has this number.
+fn in_range(i: u64) -> bool
+    ensures { λ r. ⌜ r ≡ (leb 1 i && leb i 31) ⌝ }
 {
-    if !formed {
-        return 198;
+    if i == 0 {
+        return false;
+    }
+    i <= 31
+}
+
+// How a call begins that lends `len` bytes, for the slot with this id and, in some calls, its endpoint i: the record is a disabled endpoint's where i is 0 or
+// above 31. This is the one function that goes over the whole table. What is wrong with a slot's records is gathered, and tested once for the slot.
+pub fn opens(t: Table, len: u64, id: u64, i: u64) -> Head
+    ensures { λ r. ⌜ r ≡ headFor t len id i ⌝ }
+{
+    let length = t.length;
+    if 16 < t.limit {
+        return nothing(198);
+    }
+    if 1073741824 < length {
+        return nothing(198);
+    }
+    let mut s: u64 = 1;
+    while s < 17 {
+        let j = (s - 1) as usize;
+        let slot = t.slots[j];
+        let at = ((s - 1) * 31) as usize;
+        let first = t.endpoints[at];
+        if !records::slot_ok(slot, first, length) {
+            return nothing(198);
+        }
+        let state = slot.state;
+        let base = slot.base;
+        let mut flags: u8 = 0;
+        let mut cycles = false;
+        let mut pointers: u64 = 0;
+        let mut n: u64 = 1;
+        if !records::has_contexts(state) {
+            while n < 32 {
+                let k = ((s - 1) * 31 + (n - 1)) as usize;
+                let e = t.endpoints[k];
+                let wrong = records::nonzero(e);
+                flags = flags | wrong.flags;
+                cycles = cycles | wrong.cycle;
+                pointers = pointers | wrong.pointer;
+                n += 1;
+            }
+            if records::faulty(flags, cycles, pointers) {
+                return nothing(198);
+            }
+            s += 1;
+            continue;
+        }
+        while n < 32 {
+            let k = ((s - 1) * 31 + (n - 1)) as usize;
+            let e = t.endpoints[k];
+            let wrong = records::faults_of(length, base, n, e);
+            flags = flags | wrong.flags;
+            cycles = cycles | wrong.cycle;
+            pointers = pointers | wrong.pointer;
+            n += 1;
+        }
+        if records::faulty(flags, cycles, pointers) {
+            return nothing(198);
+        }
+        s += 1;
     }
     if length != len {
-        return 194;
+        return nothing(194);
     }
-    0
+    let slots = t.slots;
+    let Lookup::Used(slot) = find(slots, id) else {
+        return nothing(0);
+    };
+    if !in_range(i) {
+        return Head {
+            code: 0,
+            found: Lookup::Used(slot),
+            endpoint: DISABLED,
+        };
+    }
+    let k = ((id - 1) * 31 + (i - 1)) as usize;
+    let endpoint = t.endpoints[k];
+    Head {
+        code: 0,
+        found: Lookup::Used(slot),
+        endpoint,
+    }
+}
+
+// The table is well formed.
+pub fn well_formed(t: Table) -> bool
+    ensures { λ r. ⌜ r ≡ tables.wellFormed t ⌝ }
+{
+    let head = opens(t, 0, 0, 0);
+    head.code != 198
 }
 
 // How a call that lends `len` bytes begins, where it is for no slot.
 pub fn checks(t: Table, len: u64) -> u64
     ensures { λ r. ⌜ r ≡ codeFor t len ⌝ }
 {
-    let formed = well_formed(t);
-    let length = t.length;
-    judge(formed, length, len)
-}
-
-// How a call that lends `len` bytes begins, where it is for the slot with this id. No slot is sought in a refusal.
-pub fn opens(t: Table, len: u64, id: u64) -> Head
-    ensures { λ r. ⌜ r ≡ headFor t len id ⌝ }
-{
-    let formed = well_formed(t);
-    let length = t.length;
-    let code = judge(formed, length, len);
-    if code != 0 {
-        return Head {
-            code,
-            found: Lookup::Nothing,
-        };
-    }
-    let slots = t.slots;
-    Head {
-        code: 0,
-        found: find(slots, id),
-    }
+    let head = opens(t, len, 0, 0);
+    head.code
 }
 
 // A refusal: the table as it was, and all but the code is 0.

@@ -4,14 +4,15 @@ use definition::EndpointState;
 use definition::Slot;
 use definition::SlotState;
 ghost use mathlib.Core.Path.{_≡_};
+ghost use mathlib.Core.Bool.{not};
 ghost use Prim.Native.Nat.{_≤_};
 ghost use Rattle.guest.specs.Bytes as bytes;
-ghost use Rattle.definition.specs.Table.{slotNumber, endpointNumber, isZero};
-ghost use Rattle.scan.specs.Records.{hasContexts, ownOk, inUse, recordOk, clear};
+ghost use Rattle.definition.specs.Table.{slotNumber, endpointNumber, isZero, endpointOk};
+ghost use Rattle.scan.specs.Records.{hasContexts, ownOk, inUse, clear};
 
 // What is wrong with an endpoint's record: all are 0 or false where nothing is.
 pub struct Faults {
-    pub flags: u64,
+    pub flags: u8,
     pub cycle: bool,
     pub pointer: u64,
 }
@@ -37,7 +38,7 @@ pub fn has_contexts(state: SlotState) -> bool
 }
 
 // The endpoint state's number: Disabled is 0.
-fn endpoint_number(state: EndpointState) -> u64
+fn endpoint_number(state: EndpointState) -> u8
     ensures { λ r. ⌜ r ≡ endpointNumber state ⌝ }
 {
     match state {
@@ -93,7 +94,7 @@ pub fn slot_ok(slot: Slot, first: Endpoint, length: u64) -> bool
 }
 
 // A record that has to be all zero: whatever is not is a fault.
-fn nonzero(e: Endpoint) -> Faults
+pub fn nonzero(e: Endpoint) -> Faults
     ensures { λ r. ⌜ clear (r .flags) (r .cycle) (r .pointer) ≡ isZero e ⌝ }
 {
     let state = e.state;
@@ -104,14 +105,11 @@ fn nonzero(e: Endpoint) -> Faults
     }
 }
 
-// The record of endpoint i, in a slot that has contexts or has none.
-pub fn faults_of(contexts: bool, length: u64, base: u64, i: u64, e: Endpoint) -> Faults
+// The record of endpoint i, in a slot whose contexts begin at `base`.
+pub fn faults_of(length: u64, base: u64, i: u64, e: Endpoint) -> Faults
     requires { ⌜ i ≤ 31 ⌝ }
-    ensures { λ r. ⌜ clear (r .flags) (r .cycle) (r .pointer) ≡ recordOk contexts length base i e ⌝ }
+    ensures { λ r. ⌜ clear (r .flags) (r .cycle) (r .pointer) ≡ endpointOk length base i e ⌝ }
 {
-    if !contexts {
-        return nonzero(e);
-    }
     let state = e.state;
     if endpoint_number(state) == 0 {
         return nonzero(e);
@@ -129,4 +127,11 @@ pub fn faults_of(contexts: bool, length: u64, base: u64, i: u64, e: Endpoint) ->
         cycle: false,
         pointer: 0,
     }
+}
+
+// Something is wrong.
+pub fn faulty(flags: u8, cycles: bool, pointers: u64) -> bool
+    ensures { λ r. ⌜ r ≡ not (clear flags cycles pointers) ⌝ }
+{
+    flags as u64 | cycles as u64 | pointers != 0
 }

@@ -1,5 +1,6 @@
 // The slot manager's calls. None asks anything of its caller: whatever the numbers, the table and the memory, the outcome and every byte of memory
 // are what the definition's program for the call gives. 198 comes first, then 194, then 11.
+use addressing::Addressing;
 use definition::Dequeue;
 use definition::Given;
 use definition::Input;
@@ -70,7 +71,7 @@ pub fn reset_all(t: Table, mem: &mut [u8]) -> Outcome
 pub fn disable_slot(t: Table, mem: &mut [u8], id: u64) -> Outcome
     ensures { λ r. ⌜ Answers (disableSlot id) t (now (mem .entry)) r (now (mem .exit)) ⌝ }
 {
-    let head = scan::opens(t, mem.len() as u64, id);
+    let head = scan::opens(t, mem.len() as u64, id, 0);
     if head.code != 0 {
         return scan::refused(t, head.code);
     }
@@ -85,7 +86,7 @@ pub fn disable_slot(t: Table, mem: &mut [u8], id: u64) -> Outcome
 pub fn address_device(t: Table, mem: &mut [u8], id: u64, pointer: u64, bsr: bool) -> Outcome
     ensures { λ r. ⌜ Answers (addressDevice id pointer bsr) t (now (mem .entry)) r (now (mem .exit)) ⌝ }
 {
-    let head = scan::opens(t, mem.len() as u64, id);
+    let head = scan::opens(t, mem.len() as u64, id, 1);
     if head.code != 0 {
         return scan::refused(t, head.code);
     }
@@ -93,14 +94,18 @@ pub fn address_device(t: Table, mem: &mut [u8], id: u64, pointer: u64, bsr: bool
     let Lookup::Used(slot) = found else {
         return scan::refused(t, 11);
     };
-    addressing::address_device(t, mem, id, slot, pointer, bsr)
+    let done = match addressing::attempt(mem, slot, head.endpoint, pointer, bsr) {
+        Addressing::Refused(code) => return scan::refused(t, code),
+        Addressing::Done(done) => done,
+    };
+    addressing::applied(t, id, done)
 }
 
 // Configure Endpoint (xHCI 4.6.6).
 pub fn configure_endpoint(t: Table, mem: &mut [u8], id: u64, pointer: u64, dc: bool) -> Outcome
     ensures { λ r. ⌜ Answers (configureEndpoint id pointer dc) t (now (mem .entry)) r (now (mem .exit)) ⌝ }
 {
-    let head = scan::opens(t, mem.len() as u64, id);
+    let head = scan::opens(t, mem.len() as u64, id, 0);
     if head.code != 0 {
         return scan::refused(t, head.code);
     }
@@ -115,7 +120,7 @@ pub fn configure_endpoint(t: Table, mem: &mut [u8], id: u64, pointer: u64, dc: b
 pub fn evaluate_context(t: Table, mem: &[u8], id: u64, pointer: u64) -> Outcome
     ensures { λ r. ⌜ Answers (evaluateContext id pointer) t (now (mem .entry)) r (now (mem .entry)) ⌝ }
 {
-    let head = scan::opens(t, mem.len() as u64, id);
+    let head = scan::opens(t, mem.len() as u64, id, 0);
     if head.code != 0 {
         return scan::refused(t, head.code);
     }
@@ -130,7 +135,7 @@ pub fn evaluate_context(t: Table, mem: &[u8], id: u64, pointer: u64) -> Outcome
 pub fn reset_device(t: Table, mem: &mut [u8], id: u64) -> Outcome
     ensures { λ r. ⌜ Answers (resetDevice id) t (now (mem .entry)) r (now (mem .exit)) ⌝ }
 {
-    let head = scan::opens(t, mem.len() as u64, id);
+    let head = scan::opens(t, mem.len() as u64, id, 0);
     if head.code != 0 {
         return scan::refused(t, head.code);
     }
@@ -155,7 +160,7 @@ fn reach(
 ) -> Outcome
     ensures { λ r. ⌜ Settles (endpointCall slotless absent id i input (length (now (mem .entry))) t) t (now (mem .entry)) r (now (mem .exit)) ⌝ }
 {
-    let head = scan::opens(t, mem.len() as u64, id);
+    let head = scan::opens(t, mem.len() as u64, id, i);
     if head.code != 0 {
         return scan::refused(t, head.code);
     }
@@ -163,7 +168,11 @@ fn reach(
     let Lookup::Used(slot) = found else {
         return scan::refused(t, slotless);
     };
-    commands::reach::reach(t, mem, id, slot, i, input, absent)
+    let settled = commands::reach::settle(head.endpoint, mem, slot, i, input, absent);
+    if settled.refused {
+        return scan::refused(t, settled.code);
+    }
+    commands::reach::applied(t, id, i, settled)
 }
 
 // Stop Endpoint (xHCI 4.6.9).

@@ -1,6 +1,7 @@
 -- Laws of the walk over all slots: each slot's endpoints are terminated, and the slot is freed.
 -- Assumes nothing.
 use mathlib.Core.Path.{_≡_}
+use mathlib.Core.Bool.{true}
 use Prim.Native.Nat.{ℕ, _+_, _-_, _*_, _≤_, _<_}
 use native.Mathlib.Omega.{arith}
 use lib.ListN.{length}
@@ -9,7 +10,7 @@ use Rattle.guest.specs.Prog.{Mem, Prog, done, bind}
 use Rattle.guest.proofs.LoopLaws.{Loop, loop-begins, loop-goes, loop-ends}
 use Rattle.guest.proofs.ListLaws.{count-first, count-none}
 use Rattle.definition.specs.declared.Table.{Table}
-use Rattle.definition.specs.Table.{free, endpointOf, slotOf, withEndpoint, withSlot}
+use Rattle.definition.specs.Table.{isDisabled, free, endpointOf, slotOf, withEndpoint, withSlot}
 use Rattle.definition.specs.Walks.{terminate, terminateAll}
 use Rattle.definition.specs.Commands.{freeing}
 use Rattle.definition.proofs.TableLaws.{endpoint-elsewhere, endpoint-slot, slot-endpoint, slot-other}
@@ -17,7 +18,7 @@ use Rattle.endpoint.specs.Promises.{Terminates}
 use Rattle.endpoint.specs.declared.Terminated.{Terminated}
 use Rattle.walks.specs.declared.Freed.{Freed}
 use Rattle.walks.specs.Promises.{Rooms, AllRooms, FreesAll}
-use Rattle.walks.proofs.WalkLaws.{Ending, ending-begins, ending-goes}
+use Rattle.walks.proofs.WalkLaws.{Ending, ending-begins, ending-goes, ending-passes}
 use Rattle.guest.proofs.RunLaws.{ends-value}
 
 -- each enabled endpoint of the slots from id on has its context in memory
@@ -43,6 +44,12 @@ clearing-goes {id} {i = i} {u = u} g one l {r} d n =
           rw (endpoint-elsewhere u id i j k (r .endpoint) one (omega arith) (λ e. omega arith) (g .ending .low, omega arith) (p, q), slot-endpoint u id i (r .endpoint) j)
           (g .later j a b k p q);
     }
+
+-- endpoint i is disabled, and passed over
+pub clearing-passes : {id base : ℕ} {t : Table} {m₀ : Mem} {s₀ : ℕ} {i : ℕ} {u : Table} {m : Mem} {s : ℕ} → Clearing id base t m₀ s₀ i u m s
+    → i < 32 → isDisabled (endpointOf u id i) ≡ true → Clearing id base t m₀ s₀ (i + 1) u m s
+clearing-passes {i = i} g l d =
+    record { mask = g .mask; ending = ending-passes (g .ending) (omega arith) l (count-first 32 i l) d; later = g .later }
 
 -- ---- all slots, on their way: those from id on are left
 

@@ -1,10 +1,10 @@
 -- Laws of the walks: a step of one record is a step of the walk.
 -- Assumes nothing.
-use mathlib.Core.Path.{_≡_}
+use mathlib.Core.Path.{_≡_, refl}
 use mathlib.Core.Bool.{Bool, true, false, cond}
 use mathlib.Core.List.{List, [], _∷_}
 use Prim.Native.Nat.{ℕ, zero, suc, _+_, _-_, _*_, _%_, _^_, _≤_, _<_}
-use native.Mathlib.Nat.{one-mul, zero-mul}
+use native.Mathlib.Nat.{one-mul, zero-mul, add-zero}
 use native.Mathlib.Omega.{arith}
 use lib.ListN.{length}
 use lib.Pow.{pow-pos, pow-mono, pow-lt, pow-add, shl-exact}
@@ -15,9 +15,10 @@ use Rattle.guest.proofs.LoopLaws.{Loop, loop-begins, loop-goes, loop-skips, loo
 use Rattle.definition.specs.declared.Table.{Table}
 use Rattle.definition.specs.Table.{isDisabled, endpointOf, withEndpoint}
 use Rattle.definition.specs.Walks.{Walk, begin, ended, terminate, terminateAll}
-use Rattle.definition.proofs.TableLaws.{endpoint-other}
+use Rattle.definition.proofs.TableLaws.{endpoint-other, endpoint-back}
 use Rattle.endpoint.specs.Promises.{Terminates}
 use Rattle.endpoint.specs.declared.Terminated.{Terminated}
+use Rattle.endpoint.proofs.StepLaws.{passed-over}
 use Rattle.walks.specs.declared.Ended.{Ended}
 use Rattle.walks.specs.Promises.{walk, Rooms, TerminatesAll}
 
@@ -98,6 +99,12 @@ module _ {id base lo : ℕ} {is₀ : List ℕ} {t : Table} {m₀ : Mem} {s₀ : 
             rw (endpoint-other u id i j (r .endpoint) (omega (arith, g .low)) (omega (arith, g .low)) (λ q. omega arith))
             (g .rooms j (omega arith) b);
       }
+
+  -- it is disabled, and passed over: the step of the walk leaves all as it was
+  pub ending-passes : Ending id base lo is₀ t m₀ s₀ js i u mask m s → 1 ≤ lo → i < 32 → js ≡ i ∷ is → isDisabled (endpointOf u id i) ≡ true
+      → Ending id base lo is₀ t m₀ s₀ is (i + 1) u mask m s
+  ending-passes g one l e d =
+      rw (endpoint-back u id i, zero-mul, add-zero mask, add-zero s) at (ending-goes g one l e (passed-over (base ⊕ 32 * i) d) refl)
 
   -- it is passed by
   pub ending-skips : Ending id base lo is₀ t m₀ s₀ js i u mask m s → i < 32 → js ≡ is → Ending id base lo is₀ t m₀ s₀ is (i + 1) u mask m s

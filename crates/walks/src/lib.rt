@@ -89,7 +89,7 @@ pub fn copy_launch(mem: &mut [u8], base: u64, from: usize, i: u64) -> Launched
 
 // ---- the endpoints of a slot
 
-// The endpoints of slot id from lo on are terminated, ascending.
+// The endpoints of slot id from lo on are terminated, ascending. A disabled one's record is not stored back.
 pub fn terminate_from(t: Table, mem: &mut [u8], id: u64, base: u64, lo: u64) -> Ended
     requires { ⌜ (1 ≤ id) × (id ≤ 16) × (1 ≤ lo) × (lo ≤ 32) ⌝ }
     requires { ⌜ Rooms t id base lo (length (now mem)) ⌝ }
@@ -102,11 +102,13 @@ pub fn terminate_from(t: Table, mem: &mut [u8], id: u64, base: u64, lo: u64) -> 
     while i < 32 {
         let k = ((id - 1) * 31 + (i - 1)) as usize;
         let e = u.endpoints[k];
-        let r = end_one(e, mem, base, i);
-        let gone = r.endpoint;
-        u.endpoints[k] = gone;
-        terminated = marked(terminated, i, r.stored);
-        stored += r.stored;
+        if !endpoint::is_disabled(e) {
+            let r = end_one(e, mem, base, i);
+            let gone = r.endpoint;
+            u.endpoints[k] = gone;
+            terminated = marked(terminated, i, r.stored);
+            stored += r.stored;
+        }
         i += 1;
     }
     Ended {
@@ -187,6 +189,7 @@ const FREE: Slot = Slot {
 };
 
 // Every slot's endpoints are terminated and the slot is freed, ascending. The registers are left as they are.
+// A disabled endpoint's record is not stored back.
 pub fn free_all(t: Table, mem: &mut [u8]) -> Freed
     requires { ⌜ AllRooms t (length (now mem)) ⌝ }
     ensures { λ r. ⌜ FreesAll t (now (mem .entry)) r (now (mem .exit)) ⌝ }
@@ -201,10 +204,12 @@ pub fn free_all(t: Table, mem: &mut [u8]) -> Freed
         while i < 32 {
             let k = ((id - 1) * 31 + (i - 1)) as usize;
             let e = u.endpoints[k];
-            let r = end_one(e, mem, base, i);
-            let ended = r.endpoint;
-            u.endpoints[k] = ended;
-            stored += r.stored;
+            if !endpoint::is_disabled(e) {
+                let r = end_one(e, mem, base, i);
+                let ended = r.endpoint;
+                u.endpoints[k] = ended;
+                stored += r.stored;
+            }
             i += 1;
         }
         u.slots[(id - 1) as usize] = FREE;

@@ -1,7 +1,7 @@
 -- `addressing::address_device` meets its contract. Assumes nothing.
+use mathlib.Core.Path.{refl}
 use native.Mathlib.Omega.{arith}
 use borrow.Author.Needs.{needs}
-use Rattle.definition.specs.Table.{withSlot}
 use Rattle.commands.proofs.OutcomeLaws.{opened-slot}
 use Rattle.addressing.proofs.AddressLaws.{default-fits, device-answers}
 use Rattle.addressing.proofs.address_device.Statement.{statement}
@@ -28,8 +28,7 @@ element-copy-out-first c =
     omega (arith, on .low, on .high)
 
 attempt-requires : tie.Need-attempt-requires
-attempt-requires c κs =
-    default-fits (c .before .before .before .pre)
+attempt-requires c κs = default-fits (c .before .before .before .pre) refl
 
 enum-known-code : tie.Need-enum-known-code
 enum-known-code c = search needs
@@ -44,49 +43,26 @@ returns : tie.Need-returns
 returns c =
     let p = c .before .before .before .before .before .before in
     let s = p .before .before .before .before in
-    rw (c .refused .ensures) (device-answers (s .pre) _ _ (p .attempt .result) (p .attempt .ensures) (c .before .before .code .given .1))
+    rw (c .refused .ensures) (device-answers (s .pre) refl _ _ (p .attempt .result) (p .attempt .ensures) (c .before .before .code .given .1))
 
 enum-known-done : tie.Need-enum-known-done
 enum-known-done c = search needs
 
-mul-launched : tie.Need-mul-launched
-mul-launched c =
-    let on = opened-slot (c .before .before .before .before .before .before .before .before .before .before .before .pre) in
-    omega (arith, on .low, on .high)
-
-element-set-from-launched : tie.Need-element-set-from-launched
-element-set-from-launched c =
-    let on = opened-slot (c .before .before .before .before .before .before .before .before .before .before .before .pre) in
-    omega (arith, on .low, on .high)
-
-sub-j : tie.Need-sub-j
-sub-j c =
-    let on = opened-slot (c .before .before .before .before .before .before .before .before .before .before .before .pre) in
-    omega (arith, on .low, on .high)
-
-mul-addressed : tie.Need-mul-addressed
-mul-addressed c =
-    let on = opened-slot (c .before .before .before .before .before .before .before .before .before .before .before .pre) in
-    omega (arith, on .low, on .high)
-
-element-set-from-addressed : tie.Need-element-set-from-addressed
-element-set-from-addressed c =
-    let on = opened-slot (c .before .before .before .before .before .before .before .before .before .before .before .pre) in
-    omega (arith, on .low, on .high)
-
-success-requires : tie.Need-success-requires
-success-requires c κs = search needs
+applied-requires : tie.Need-applied-requires
+applied-requires c κs =
+    let p = c .before .before .before .before .before in
+    let on = opened-slot (p .before .before .before .before .pre) in
+    (on .low, on .high)
 
 same-length-2 : tie.Need-same-length-2
 same-length-2 c = search needs
 
 returns-2 : tie.Need-returns-2
-unfolding withSlot
 returns-2 c =
-    let d = c .before .before .before .before in
+    let d = c .before .before in
     let p = d .before .before .before .before in
     let s = p .before .before .before .before in
-    rw (c .success .ensures) (device-answers (s .pre) _ _ (p .attempt .result) (p .attempt .ensures) (d .done .given .1))
+    rw (c .applied .ensures) (device-answers (s .pre) refl _ _ (p .attempt .result) (p .attempt .ensures) (d .done .given .1))
 
 pub address-device-spec : {M : Type 1} → statement M
 address-device-spec =
@@ -102,11 +78,6 @@ address-device-spec =
     same-length
     returns
     enum-known-done
-    mul-launched
-    element-set-from-launched
-    sub-j
-    mul-addressed
-    element-set-from-addressed
-    success-requires
+    applied-requires
     same-length-2
     returns-2)

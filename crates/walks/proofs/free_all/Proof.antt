@@ -1,8 +1,12 @@
 -- `walks::free_all` meets its contract. Assumes nothing.
+use mathlib.Core.Path.{sym, _∙_}
+use mathlib.Core.Logic.{⊎-elim}
 use Prim.Native.Nat.{_-_}
 use native.Mathlib.Omega.{arith}
+use borrow.Author.Needs.{needs}
+use borrow.Author.Tests.{not-false}
 use Rattle.definition.specs.Table.{endpointOf, slotOf, withEndpoint, withSlot}
-use Rattle.walks.proofs.FreeLaws.{Clearing, clearing-begins, clearing-goes, Freeing, freeing-begins, freeing-goes, freeing-ends}
+use Rattle.walks.proofs.FreeLaws.{Clearing, clearing-begins, clearing-goes, clearing-passes, Freeing, freeing-begins, freeing-goes, freeing-ends}
 use Rattle.walks.proofs.free_all.Statement.{statement}
 use Rattle.walks.proofs.free_all.Tie as tie
 
@@ -52,24 +56,27 @@ mul-e c = omega (arith, c .before .loop2 .inv .ending .low)
 element-copy-out-e : tie.Need-element-copy-out-e Inv-loop2 μ-loop2 Inv-loop μ-loop
 element-copy-out-e c = omega (arith, c .before .loop2 .inv .ending .low, c .before .before .before .before .loop .inv .low)
 
+is-disabled-requires : tie.Need-is-disabled-requires Inv-loop2 μ-loop2 Inv-loop μ-loop
+is-disabled-requires c κs = search needs
+
 end-one-requires : tie.Need-end-one-requires Inv-loop2 μ-loop2 Inv-loop μ-loop
 unfolding endpointOf
 end-one-requires c κs =
-    let l = c .before .before .before .loop2 in
+    let l = c .before .before .before .before .before .loop2 in
     (omega arith, λ d. rw (l .inv .ending .loop .size) (l .inv .ending .rooms (l .i) (omega arith) (omega arith) d))
 
 mul-ended : tie.Need-mul-ended Inv-loop2 μ-loop2 Inv-loop μ-loop
-mul-ended c = omega (arith, c .before .before .before .before .before .before .before .loop2 .inv .ending .low)
+mul-ended c = omega (arith, c .before .before .before .before .before .before .before .before .before .loop2 .inv .ending .low)
 
 element-set-from-ended : tie.Need-element-set-from-ended Inv-loop2 μ-loop2 Inv-loop μ-loop
 element-set-from-ended c =
-    let l = c .before .before .before .before .before .before .before in
+    let l = c .before .before .before .before .before .before .before .before .before in
     omega (arith, l .loop2 .inv .ending .low, l .before .before .before .loop .inv .low)
 
 add-stored : tie.Need-add-stored Inv-loop2 μ-loop2 Inv-loop μ-loop
 add-stored c =
     let one = c .before .before .before .before in
-    let l = one .before .before .before .before in
+    let l = one .before .before .before .before .before .before in
     omega (arith, one .end-one .ensures .few, l .loop2 .inv .ending .few, l .before .before .before .loop .inv .few)
 
 add-i : tie.Need-add-i Inv-loop2 μ-loop2 Inv-loop μ-loop
@@ -78,12 +85,18 @@ add-i c = omega arith
 loop2-less : tie.Need-loop2-less Inv-loop2 μ-loop2 Inv-loop μ-loop
 loop2-less c = omega arith
 
+-- where it is enabled, w .2 is the call of `end_one`; the last three of w say what the locals became
 loop2-again : tie.Need-loop2-again Inv-loop2 μ-loop2 Inv-loop μ-loop
 unfolding endpointOf withEndpoint
 loop2-again c =
-    let one = c .before .before .before .before in
-    let l = one .before .before .before .before in
-    clearing-goes (l .loop2 .inv) (l .before .before .before .loop .inv .low) (omega arith) (one .end-one .ensures) (one .end-one .kept .1 .0)
+    let l = c .before .before .before .before in
+    ⊎-elim
+    (λ w.
+    rw (w .7, w .8, w .9)
+    (clearing-goes (l .loop2 .inv) (l .before .before .before .loop .inv .low) (omega arith) (w .2 .ensures) (w .2 .kept .1 .0)))
+    (λ w.
+    rw (w .1, w .2, w .3)
+    (clearing-passes (l .loop2 .inv) (omega arith) (sym (c .before .is-disabled .ensures) ∙ not-false _ (w .0 .left)))) (c .if1 .came)
 
 sub-t14 : tie.Need-sub-t14 Inv-loop2 μ-loop2 Inv-loop μ-loop
 sub-t14 c = omega (arith, c .before .before .before .before .loop .inv .low)
@@ -129,6 +142,7 @@ free-all-spec =
     add-k
     mul-e
     element-copy-out-e
+    is-disabled-requires
     end-one-requires
     mul-ended
     element-set-from-ended
