@@ -1,53 +1,9 @@
-// Loops for a driver in another language: each makes a start table, calls the slot manager n times, and gives the sum of the answers' codes.
+// Loops for a driver in another language: each makes a start table (`stages`), calls the slot manager n times, and gives the sum of the answers' codes.
 // Every turn begins from the same start. `zero` is 0, which the compiler cannot know: no turn can begin before the one in front of it has answered.
 use definition::Dequeue;
 use definition::Look;
-use definition::Outcome;
 use definition::Table;
 ghost use Rattle.formed.specs.Promises.{Ready};
-
-// ---- the start: a table after the first `stage` calls of slot 1's life
-// The driver has put DCBAA entry 1 and three input contexts into the memory: endpoint 1; 3 dropped and added; 2 to 31 dropped and added.
-
-fn input(k: u64) -> u64 {
-    if k == 3 {
-        return 20480;
-    }
-    24576
-}
-
-// The call after stage k. From stage 1 on slot 1 is: 1 Enabled, 2 Default, 3 Addressed, 4 Configured with endpoint 3, 5 that one Stopped, 6 with 2 to 31,
-// 7 Addressed by DC=1, 8 Default by Reset Device.
-fn next(t: Table, mem: &mut [u8], k: u64) -> Outcome {
-    if k == 0 {
-        return slot_manager::enable_slot(t);
-    }
-    if k <= 2 {
-        return slot_manager::address_device(t, mem, 1, 16384, k == 1);
-    }
-    if k == 4 {
-        return slot_manager::stop_endpoint(t, mem, 1, 3);
-    }
-    if k == 7 {
-        return slot_manager::reset_device(t, mem, 1);
-    }
-    slot_manager::configure_endpoint(t, mem, 1, input(k), k == 6)
-}
-
-// Stage 0 is a fresh table with limit 16 and DCBAAP 256.
-fn life(mem: &mut [u8], stage: u64) -> Table {
-    let made = slot_manager::make_table(mem.len() as u64);
-    let mut t = made.table;
-    t.limit = 16;
-    t.dcbaap = 256;
-    let mut k: u64 = 0;
-    while k < stage {
-        let o = next(t, mem, k);
-        t = o.table;
-        k += 1;
-    }
-    t
-}
 
 // ---- the calls
 
@@ -77,17 +33,9 @@ const NOTHING_FOUND: Look = Look {
     cycle: true,
 };
 
-// The sum, once the last table is found well formed: the whole of it is read, so each turn must write it.
-fn summed(kept: Table, a: u64) -> u64 {
-    if !scan::well_formed(kept) {
-        return 0;
-    }
-    a
-}
-
 #[no_mangle]
 pub extern "C" fn bench_enable(mem: &mut [u8], n: u64, stage: u64, zero: u64) -> u64 {
-    let mut start = life(mem, stage);
+    let mut start = stages::life(mem, stage);
     let mut kept = start;
     let mut turn: u64 = 0;
     let mut a: u64 = 0;
@@ -98,7 +46,7 @@ pub extern "C" fn bench_enable(mem: &mut [u8], n: u64, stage: u64, zero: u64) ->
         kept = o.table;
         a = guest::address::plus(a, o.answer.code);
     }
-    summed(kept, a)
+    stages::summed(kept, a)
 }
 
 // Disable Slot or Reset Device.
@@ -111,7 +59,7 @@ pub extern "C" fn bench_slot(
     id: u64,
     zero: u64,
 ) -> u64 {
-    let start = life(mem, stage);
+    let start = stages::life(mem, stage);
     let mut kept = start;
     let mut turn: u64 = 0;
     let mut a: u64 = 0;
@@ -128,7 +76,7 @@ pub extern "C" fn bench_slot(
         kept = o.table;
         a = guest::address::plus(a, o.answer.code);
     }
-    summed(kept, a)
+    stages::summed(kept, a)
 }
 
 // Address Device, Configure Endpoint or Evaluate Context. The flag is BSR or DC.
@@ -142,7 +90,7 @@ pub extern "C" fn bench_context(
     flag: u64,
     zero: u64,
 ) -> u64 {
-    let start = life(mem, stage);
+    let start = stages::life(mem, stage);
     let mut kept = start;
     let mut turn: u64 = 0;
     let mut a: u64 = 0;
@@ -165,7 +113,7 @@ pub extern "C" fn bench_context(
         kept = o.table;
         a = guest::address::plus(a, o.answer.code);
     }
-    summed(kept, a)
+    stages::summed(kept, a)
 }
 
 // Stop Endpoint, Set Dequeue or a doorbell.
@@ -179,7 +127,7 @@ pub extern "C" fn bench_endpoint(
     i: u64,
     zero: u64,
 ) -> u64 {
-    let start = life(mem, stage);
+    let start = stages::life(mem, stage);
     let mut kept = start;
     let mut turn: u64 = 0;
     let mut a: u64 = 0;
@@ -202,7 +150,7 @@ pub extern "C" fn bench_endpoint(
         kept = o.table;
         a = guest::address::plus(a, o.answer.code);
     }
-    summed(kept, a)
+    stages::summed(kept, a)
 }
 
 #[no_mangle]
@@ -214,7 +162,7 @@ pub extern "C" fn bench_doorbell_stop(
     i: u64,
     zero: u64,
 ) -> u64 {
-    let start = life(mem, stage);
+    let start = stages::life(mem, stage);
     let mut kept = start;
     let mut turn: u64 = 0;
     let mut a: u64 = 0;
@@ -227,7 +175,7 @@ pub extern "C" fn bench_doorbell_stop(
         kept = p.table;
         a = guest::address::plus(a, p.answer.code);
     }
-    summed(kept, a)
+    stages::summed(kept, a)
 }
 
 // ---- the same without the scan: the start is found well formed once
@@ -252,7 +200,7 @@ fn turns(start: Table, mem: &[u8], n: u64, call: u64, pointer: u64, zero: u64) -
         kept = o.table;
         a = guest::address::plus(a, o.answer.code);
     }
-    summed(kept, a)
+    stages::summed(kept, a)
 }
 
 // Stop Endpoint or a doorbell.
@@ -283,7 +231,7 @@ fn endpoint_turns(
         kept = o.table;
         a = guest::address::plus(a, o.answer.code);
     }
-    summed(kept, a)
+    stages::summed(kept, a)
 }
 
 // Enable Slot, Evaluate Context with x as the pointer, Stop Endpoint or a doorbell to endpoint i of slot x.
@@ -297,7 +245,7 @@ pub extern "C" fn bench_formed(
     i: u64,
     zero: u64,
 ) -> u64 {
-    let start = life(mem, stage);
+    let start = stages::life(mem, stage);
     if scan::checks(start, mem.len() as u64) != 0 {
         return 0;
     }

@@ -3,10 +3,9 @@
 // eight numbers.
 // The file stdout was not made by a run: a script that holds the document's numbers, tests/make_cases.py, made it.
 mod act;
-mod scripts;
 mod show;
 
-use act::Says;
+use scripts::Says;
 use scripts::Script;
 
 // Address Device of slot 1, just enabled.

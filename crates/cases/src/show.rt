@@ -1,9 +1,9 @@
 // What is written: what is tried or looked at, what is expected, what came, and whether they are the same.
-use crate::act::Call;
-use crate::act::Says;
 use definition::Answer;
 use definition::Endpoint;
 use libc::STDOUT_FILENO;
+use scripts::Call;
+use scripts::Says;
 
 fn text(t: &[u8]) {
     io::write_all(STDOUT_FILENO, t);

@@ -1,7 +1,5 @@
 // Recorded sessions, replayed: what the oracle prints for them (oracle/README.md), from standard input.
 // A record of 32 zero bytes begins a new session: a fresh table and 65,536 zero bytes. Sessions end with the table and the memory.
-mod lines;
-
 use definition::Table;
 use libc::STDIN_FILENO;
 ghost use Prim.Native.Nat.{_+_, _≤_};

@@ -1,8 +1,8 @@
--- `differential::lines::zero` meets its contract. Assumes nothing.
+-- `lines::zero` meets its contract. Assumes nothing.
 use Prim.Native.Nat.{_-_, _≤_}
 use borrow.Author.Needs.{needs}
-use Rattle.differential.proofs.lines.zero.Statement.{statement}
-use Rattle.differential.proofs.lines.zero.Tie as tie
+use Rattle.lines.proofs.zero.Statement.{statement}
+use Rattle.lines.proofs.zero.Tie as tie
 
 abbrev Inv-loop : tie.InvT-loop
 Inv-loop bytes at i₀ i = i ≤ 32

@@ -1,8 +1,8 @@
--- `differential::lines::endpoints` meets its contract. Assumes nothing.
+-- `lines::endpoints` meets its contract. Assumes nothing.
 use Prim.Native.Nat.{_-_, _≤_}
 use borrow.Author.Needs.{needs}
-use Rattle.differential.proofs.lines.endpoints.Statement.{statement}
-use Rattle.differential.proofs.lines.endpoints.Tie as tie
+use Rattle.lines.proofs.endpoints.Statement.{statement}
+use Rattle.lines.proofs.endpoints.Tie as tie
 
 abbrev Inv-loop : tie.InvT-loop
 Inv-loop t k₀ k = k ≤ 496

@@ -1,4 +1,4 @@
--- `differential::lines::line` meets its contract. Assumes nothing.
+-- `lines::line` meets its contract. Assumes nothing.
 use Prim.Native.Nat.{_+_, _*_, _-_, _≤_}
 use mathlib.Core.Path.{_≡_, sym, _∙_}
 use native.Mathlib.Omega.{arith}
@@ -6,8 +6,8 @@ use lib.ListN.{length, set, length-set}
 use lib.Seq.{length-take-le}
 use borrow.Rule.Slice.PartMut.{same-len-mid}
 use borrow.Author.Needs.{needs}
-use Rattle.differential.proofs.lines.line.Statement.{statement}
-use Rattle.differential.proofs.lines.line.Tie as tie
+use Rattle.lines.proofs.line.Statement.{statement}
+use Rattle.lines.proofs.line.Tie as tie
 
 abbrev Inv-loop : tie.InvT-loop
 Inv-loop name numbers text₀ end₀ i₀ text end i = (i ≤ length numbers) × (end ≤ 21 * i) × (length text ≡ 128)

@@ -1,8 +1,8 @@
--- `differential::lines::slots` meets its contract. Assumes nothing.
+-- `lines::slots` meets its contract. Assumes nothing.
 use Prim.Native.Nat.{_-_, _≤_}
 use borrow.Author.Needs.{needs}
-use Rattle.differential.proofs.lines.slots.Statement.{statement}
-use Rattle.differential.proofs.lines.slots.Tie as tie
+use Rattle.lines.proofs.slots.Statement.{statement}
+use Rattle.lines.proofs.slots.Tie as tie
 
 abbrev Inv-loop : tie.InvT-loop
 Inv-loop t i₀ i = i ≤ 16

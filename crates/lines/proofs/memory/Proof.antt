@@ -1,8 +1,8 @@
--- `differential::lines::memory` meets its contract. Assumes nothing.
+-- `lines::memory` meets its contract. Assumes nothing.
 use Prim.Native.Nat.{_-_, _≤_}
 use borrow.Author.Needs.{needs}
-use Rattle.differential.proofs.lines.memory.Statement.{statement}
-use Rattle.differential.proofs.lines.memory.Tie as tie
+use Rattle.lines.proofs.memory.Statement.{statement}
+use Rattle.lines.proofs.memory.Tie as tie
 
 abbrev Inv-loop : tie.InvT-loop
 Inv-loop mem line₀ line = line ≤ 2048

@@ -1,10 +1,10 @@
--- `bench::life` meets its contract. Assumes nothing.
+-- `stages::life` meets its contract. Assumes nothing.
 use Prim.Native.Nat.{_≤_, _-_}
 use mathlib.Core.Path.{_≡_}
 use lib.ListN.{length}
 use borrow.Author.Needs.{needs}
-use Rattle.bench.proofs.life.Statement.{statement}
-use Rattle.bench.proofs.life.Tie as tie
+use Rattle.stages.proofs.life.Statement.{statement}
+use Rattle.stages.proofs.life.Tie as tie
 
 abbrev Inv-loop : tie.InvT-loop
 Inv-loop mem₀ stage t₀ k₀ mem t k = (k ≤ stage) × (length mem ≡ length mem₀)

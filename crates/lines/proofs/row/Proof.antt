@@ -1,12 +1,12 @@
--- `differential::lines::row` meets its contract. Assumes nothing.
+-- `lines::row` meets its contract. Assumes nothing.
 use Prim.Native.Nat.{_+_, _*_, _-_, _≤_}
 use mathlib.Core.Path.{_≡_, sym}
 use native.Mathlib.Omega.{arith}
 use lib.ListN.{length, length-set, length-append}
 use lib.Seq.{length-take-le}
 use borrow.Author.Needs.{needs}
-use Rattle.differential.proofs.lines.row.Statement.{statement}
-use Rattle.differential.proofs.lines.row.Tie as tie
+use Rattle.lines.proofs.row.Statement.{statement}
+use Rattle.lines.proofs.row.Tie as tie
 
 abbrev Inv-loop : tie.InvT-loop
 Inv-loop mem address text₀ end at₀ i₀ text at i = (i ≤ 32) × (at ≤ 28 + 2 * i) × (length text ≡ 96)
