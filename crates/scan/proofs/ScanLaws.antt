@@ -66,13 +66,6 @@ pub clear-all : (a : ℕ) (c : Bool) (b : ℕ) → eqb (bitOr (bitOr a (boolByte
 clear-all a true b = or-zero (bitOr a 1) b ∙ ap (λ (q : Bool). q && eqb b 0) (or-zero a 1)
 clear-all a false b = or-zero (bitOr a 0) b ∙ ap (λ (q : Bool). q && eqb b 0) (or-zero a 0)
 
--- what `faulty` tells
-pub faulty-is : (a : ℕ) (c : Bool) (b : ℕ) → not (clear a c b) ≡ true → clear a c b ≡ false
-faulty-is a c b e = not-true (clear a c b) e
-
-pub clear-is : (a : ℕ) (c : Bool) (b : ℕ) → not (clear a c b) ≡ false → clear a c b ≡ true
-clear-is a c b e = not-false (clear a c b) e
-
 -- a record's state as a number, its cycle and its pointer
 pub clear-record : (e : Endpoint) {n : ℕ} → n ≡ endpointNumber (e .state) → clear n (e .cycle) (e .pointer) ≡ isZero e
 unfolding isZero
@@ -125,17 +118,19 @@ slot-in Default s t id = refl
 slot-in Addressed s t id = refl
 slot-in Configured s t id = refl
 
--- the slot's own part fails
-pub slot-bad : (t : Table) (id : ℕ) → ownOk (slotOf t id) (firstOf t id) (t .length) ≡ false → slotOk t id ≡ false
-unfolding ownOk slotOk
-slot-bad t id h = sym (slot-in (slotOf t id .state) (slotOf t id) t id) ∙ rw (first-is t id, h)
+-- own is what `slot_ok` gives
+module _ (t : Table) (id : ℕ) {own : Bool} (e : own ≡ ownOk (slotOf t id) (firstOf t id) (t .length)) where
+  -- the slot's own part fails
+  pub slot-bad : not own ≡ true → slotOk t id ≡ false
+  unfolding ownOk slotOk
+  slot-bad h = sym (slot-in (slotOf t id .state) (slotOf t id) t id) ∙ rw (first-is t id, sym e ∙ not-true own h)
 
--- it passes: the faults gathered from the records decide
-pub slot-is : (t : Table) (id : ℕ) {contexts : Bool} {i : ℕ} (a : ℕ) (c : Bool) (b : ℕ) → contexts ≡ hasContexts (slotOf t id .state) → ownOk (slotOf t id) (firstOf t id) (t .length) ≡ true
-    → Scan (testOf contexts (t .length) (slotOf t id .base) t id) 32 i (clear a c b) → 32 ≤ i → slotOk t id ≡ clear a c b
-unfolding ownOk slotOk
-slot-is t id a c b u h s l =
-    sym (slot-in (slotOf t id .state) (slotOf t id) t id) ∙ rw (first-is t id, h) (sym (scan-ends _ s l ∙ rw u))
+  -- it passes: the faults gathered from the records decide
+  pub slot-is : not own ≡ false → {contexts : Bool} {i : ℕ} (a : ℕ) (c : Bool) (b : ℕ) → contexts ≡ hasContexts (slotOf t id .state)
+      → Scan (testOf contexts (t .length) (slotOf t id .base) t id) 32 i (clear a c b) → 32 ≤ i → slotOk t id ≡ clear a c b
+  unfolding ownOk slotOk
+  slot-is h a c b u s l =
+      sym (slot-in (slotOf t id .state) (slotOf t id) t id) ∙ rw (first-is t id, sym e ∙ not-false own h) (sym (scan-ends _ s l ∙ rw u))
 
 -- ---- the table
 
@@ -159,6 +154,9 @@ pub found-is : (t : Table) (id : ℕ) → foundIn (t .slots) id ≡ lookup t id
 unfolding foundIn lookup slotOf
 found-is t id = refl
 
+used-is : (t : Table) (id : ℕ) {l : Lookup} {s : Slot} → l ≡ foundIn (t .slots) id → l ≡ Used s → lookup t id ≡ Used s
+used-is t id e u = sym (found-is t id) ∙ sym e ∙ u
+
 module _ (t : Table) (len id i : ℕ) where
   -- 198
   pub head-malformed : false ≡ wellFormed t → nothingWith 198 ≡ headFor t len id i
@@ -178,25 +176,32 @@ module _ (t : Table) (len id i : ℕ) where
   pub head-absent : true ≡ wellFormed t → t .length ≡ len → Nothing ≡ lookup t id → nothingWith 0 ≡ headFor t len id i
   head-absent e z f = head-of e z Nothing f
 
-  pub head-used : true ≡ wellFormed t → t .length ≡ len → {s : Slot} → lookup t id ≡ Used s → {e : Endpoint} → recordAt t id i ≡ e
+  head-used : true ≡ wellFormed t → t .length ≡ len → {s : Slot} → lookup t id ≡ Used s → {e : Endpoint} → recordAt t id i ≡ e
       → record { code = 0; found = Used s; endpoint = e } ≡ headFor t len id i
   head-used e z {s} f r = ap (λ (x : Endpoint). record { code = 0; found = Used s; endpoint = x }) (sym r) ∙ head-of e z (Used s) (sym f)
 
 -- the record of an endpoint
-module _ (t : Table) (id i : ℕ) where
-  pub record-none : (leb 1 i && leb i 31) ≡ false → recordAt t id i ≡ disabled
-  unfolding recordAt
-  record-none e = rw e
+pub record-is : (t : Table) (id i : ℕ) → (leb 1 i && leb i 31) ≡ true → recordAt t id i ≡ endpointOf t id i
+unfolding recordAt
+record-is t id i e = rw e
 
-  pub record-is : (leb 1 i && leb i 31) ≡ true → recordAt t id i ≡ endpointOf t id i
+-- .. where the look gave l, and found a slot; inside is what `in_range` gives
+module _ (t : Table) (len id i : ℕ) (f : true ≡ wellFormed t) (z : t .length ≡ len) {l : Lookup} {s : Slot} (e : l ≡ foundIn (t .slots) id) (u : l ≡ Used s)
+    {inside : Bool} (r : inside ≡ (leb 1 i && leb i 31)) where
+  pub head-outside : not inside ≡ true → record { code = 0; found = Used s; endpoint = disabled } ≡ headFor t len id i
   unfolding recordAt
-  record-is e = rw e
+  head-outside h = head-used t len id i f z (used-is t id e u) (rw (sym r ∙ not-true inside h))
 
-  -- where it stands
-  pub bounds : {s : Slot} → lookup t id ≡ Used s → (leb 1 i && leb i 31) ≡ true → (1 ≤ id) × (id ≤ 16) × (1 ≤ i) × (i ≤ 31)
-  bounds {s} f e =
-      let u = used-slot t id s f .1 in
-      (u .0, u .1, leb-true 1 i (and-left (leb 1 i) _ e), leb-true i 31 (and-right (leb 1 i) _ e))
+  pub head-inside : not inside ≡ false → record { code = 0; found = Used s; endpoint = endpointOf t id i } ≡ headFor t len id i
+  head-inside h = head-used t len id i f z (used-is t id e u) (record-is t id i (sym r ∙ not-false inside h))
+
+-- where its record stands
+pub bounds : (t : Table) (id i : ℕ) {l : Lookup} {s : Slot} → l ≡ foundIn (t .slots) id → l ≡ Used s → {inside : Bool} → inside ≡ (leb 1 i && leb i 31) → not inside ≡ false
+    → (1 ≤ id) × (id ≤ 16) × (1 ≤ i) × (i ≤ 31)
+bounds t id i {s = s} e u {inside} r h =
+    let q = used-slot t id s (used-is t id e u) .1 in
+    let n = sym r ∙ not-false inside h in
+    (q .0, q .1, leb-true 1 i (and-left (leb 1 i) _ n), leb-true i 31 (and-right (leb 1 i) _ n))
 
 -- what the code tells of the table
 pub code-formed : (t : Table) (len : ℕ) {code : ℕ} → code ≡ codeFor t len → not (eqb code 198) ≡ wellFormed t

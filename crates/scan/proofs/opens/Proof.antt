@@ -8,7 +8,7 @@ use borrow.Author.Needs.{needs}
 use borrow.Author.Tests.{not-true, not-false}
 use Rattle.definition.specs.Table.{endpointOf, slotOf, slotOk}
 use Rattle.scan.specs.Records.{clear}
-use Rattle.scan.proofs.ScanLaws.{scan-gathers, faulty-is, clear-is, testOf, slot-bad, slot-is, Scan, scan-begins, scan-goes, scan-ends, scan-fails, over-limit, over-length, slots-decide, found-is, head-malformed, head-other, head-absent, head-used, record-none, record-is, bounds}
+use Rattle.scan.proofs.ScanLaws.{scan-gathers, testOf, slot-bad, slot-is, Scan, scan-begins, scan-goes, scan-ends, scan-fails, over-limit, over-length, slots-decide, found-is, head-malformed, head-other, head-absent, head-outside, head-inside, bounds}
 use Rattle.scan.proofs.opens.Statement.{statement}
 use Rattle.scan.proofs.opens.Tie as tie
 
@@ -85,7 +85,7 @@ returns-3 c =
     ∙ head-malformed (a .t1) (a .len) (a .id) (a .i)
     (slots-decide (a .t1) (l .before .before .if1 .left) (l .before .if2 .left)
     (scan-fails (slotOk (a .t1)) (l .loop .inv) (omega arith)
-    (slot-bad (a .t1) (l .loop .s) (sym (c .before .before .slot-ok .ensures) ∙ not-true (c .before .before .slot-ok .result) (c .before .if3 .taken)))))
+    (slot-bad (a .t1) (l .loop .s) (c .before .before .slot-ok .ensures) (c .before .if3 .taken))))
 
 has-contexts-requires : tie.Need-has-contexts-requires Inv-loop2 μ-loop2 Inv-loop3 μ-loop3 Inv-loop μ-loop
 has-contexts-requires c κs = search needs
@@ -145,8 +145,9 @@ returns-4 c =
     ∙ head-malformed (a .t1) (a .len) (a .id) (a .i)
     (slots-decide (a .t1) (l .before .before .if1 .left) (l .before .if2 .left)
     (scan-fails (slotOk (a .t1)) (l .loop .inv) (omega arith)
-    (slot-is (a .t1) (l .loop .s) (g .loop2 .flags) (g .loop2 .cycles) (g .loop2 .pointers) (sym (not-true (h .has-contexts .result) (g .before .if4 .taken)) ∙ h .has-contexts .ensures) (sym (h .before .before .slot-ok .ensures) ∙ not-false (h .before .before .slot-ok .result) (h .before .if3 .left)) (g .loop2 .inv) (c .before .before .before .loop2-test .left)
-    ∙ faulty-is (g .loop2 .flags) (g .loop2 .cycles) (g .loop2 .pointers) (sym (c .before .before .faulty .ensures) ∙ c .before .if5 .taken))))
+    (slot-is (a .t1) (l .loop .s) (h .before .before .slot-ok .ensures) (h .before .if3 .left) (g .loop2 .flags) (g .loop2 .cycles) (g .loop2 .pointers)
+    (sym (not-true (h .has-contexts .result) (g .before .if4 .taken)) ∙ h .has-contexts .ensures) (g .loop2 .inv) (c .before .before .before .loop2-test .left)
+    ∙ not-true _ (sym (c .before .before .faulty .ensures) ∙ c .before .if5 .taken))))
 
 add-s : tie.Need-add-s Inv-loop2 μ-loop2 Inv-loop3 μ-loop3 Inv-loop μ-loop
 add-s c = search needs
@@ -162,8 +163,9 @@ loop-again c =
     let l = c .before .before .before .before .before .before .before .before .before .before .before in
     let a = l .before .before .before .args in
     scan-goes (slotOk (a .t1)) (l .loop .inv) (omega arith) true
-    (sym (slot-is (a .t1) (l .loop .s) (g .loop2 .flags) (g .loop2 .cycles) (g .loop2 .pointers) (sym (not-true (h .has-contexts .result) (g .before .if4 .taken)) ∙ h .has-contexts .ensures) (sym (h .before .before .slot-ok .ensures) ∙ not-false (h .before .before .slot-ok .result) (h .before .if3 .left)) (g .loop2 .inv) (c .before .before .loop2-test .left)
-    ∙ clear-is (g .loop2 .flags) (g .loop2 .cycles) (g .loop2 .pointers) (sym (c .before .faulty .ensures) ∙ c .if5 .left)))
+    (sym (slot-is (a .t1) (l .loop .s) (h .before .before .slot-ok .ensures) (h .before .if3 .left) (g .loop2 .flags) (g .loop2 .cycles) (g .loop2 .pointers)
+    (sym (not-true (h .has-contexts .result) (g .before .if4 .taken)) ∙ h .has-contexts .ensures) (g .loop2 .inv) (c .before .before .loop2-test .left)
+    ∙ not-false _ (sym (c .before .faulty .ensures) ∙ c .if5 .left)))
 
 loop3-holds : tie.Need-loop3-holds Inv-loop2 μ-loop2 Inv-loop3 μ-loop3 Inv-loop μ-loop
 loop3-holds c = scan-begins _ 32 (omega arith)
@@ -220,8 +222,9 @@ returns-5 c =
     ∙ head-malformed (a .t1) (a .len) (a .id) (a .i)
     (slots-decide (a .t1) (l .before .before .if1 .left) (l .before .if2 .left)
     (scan-fails (slotOk (a .t1)) (l .loop .inv) (omega arith)
-    (slot-is (a .t1) (l .loop .s) (g .loop3 .flags) (g .loop3 .cycles) (g .loop3 .pointers) (sym (not-false (h .has-contexts .result) (g .before .if4 .left)) ∙ h .has-contexts .ensures) (sym (h .before .before .slot-ok .ensures) ∙ not-false (h .before .before .slot-ok .result) (h .before .if3 .left)) (g .loop3 .inv) (c .before .before .before .loop3-test .left)
-    ∙ faulty-is (g .loop3 .flags) (g .loop3 .cycles) (g .loop3 .pointers) (sym (c .before .before .faulty2 .ensures) ∙ c .before .if6 .taken))))
+    (slot-is (a .t1) (l .loop .s) (h .before .before .slot-ok .ensures) (h .before .if3 .left) (g .loop3 .flags) (g .loop3 .cycles) (g .loop3 .pointers)
+    (sym (not-false (h .has-contexts .result) (g .before .if4 .left)) ∙ h .has-contexts .ensures) (g .loop3 .inv) (c .before .before .before .loop3-test .left)
+    ∙ not-true _ (sym (c .before .before .faulty2 .ensures) ∙ c .before .if6 .taken))))
 
 add-s-2 : tie.Need-add-s-2 Inv-loop2 μ-loop2 Inv-loop3 μ-loop3 Inv-loop μ-loop
 add-s-2 c = search needs
@@ -237,8 +240,9 @@ loop-again-2 c =
     let l = c .before .before .before .before .before .before .before .before .before .before .before in
     let a = l .before .before .before .args in
     scan-goes (slotOk (a .t1)) (l .loop .inv) (omega arith) true
-    (sym (slot-is (a .t1) (l .loop .s) (g .loop3 .flags) (g .loop3 .cycles) (g .loop3 .pointers) (sym (not-false (h .has-contexts .result) (g .before .if4 .left)) ∙ h .has-contexts .ensures) (sym (h .before .before .slot-ok .ensures) ∙ not-false (h .before .before .slot-ok .result) (h .before .if3 .left)) (g .loop3 .inv) (c .before .before .loop3-test .left)
-    ∙ clear-is (g .loop3 .flags) (g .loop3 .cycles) (g .loop3 .pointers) (sym (c .before .faulty2 .ensures) ∙ c .if6 .left)))
+    (sym (slot-is (a .t1) (l .loop .s) (h .before .before .slot-ok .ensures) (h .before .if3 .left) (g .loop3 .flags) (g .loop3 .cycles) (g .loop3 .pointers)
+    (sym (not-false (h .has-contexts .result) (g .before .if4 .left)) ∙ h .has-contexts .ensures) (g .loop3 .inv) (c .before .before .loop3-test .left)
+    ∙ not-false _ (sym (c .before .faulty2 .ensures) ∙ c .if6 .left)))
 
 nothing-requires-6 : tie.Need-nothing-requires-6 Inv-loop2 μ-loop2 Inv-loop3 μ-loop3 Inv-loop μ-loop
 nothing-requires-6 c κs = search needs
@@ -280,49 +284,48 @@ returns-8 c =
     let a = l .before .before .before .args in
     let formed = slots-decide (a .t1) (l .before .before .if1 .left) (l .before .if2 .left) (sym (scan-ends (slotOk (a .t1)) (l .loop .inv) (c .before .before .before .before .before .before .before .before .loop-test .left))) in
     let f = c .before .before .before in
-    head-used (a .t1) (a .len) (a .id) (a .i) formed (f .before .before .before .before .if7 .left) (sym (found-is (a .t1) (a .id)) ∙ sym (f .before .before .find .ensures) ∙ f .slot2 .given .1)
-    (record-none (a .t1) (a .id) (a .i) (sym (c .before .in-range .ensures) ∙ not-true (c .before .in-range .result) (c .if8 .taken)))
+    head-outside (a .t1) (a .len) (a .id) (a .i) formed (f .before .before .before .before .if7 .left) (f .before .before .find .ensures) (f .slot2 .given .1) (c .before .in-range .ensures) (c .if8 .taken)
 
 sub-k-5 : tie.Need-sub-k-5 Inv-loop2 μ-loop2 Inv-loop3 μ-loop3 Inv-loop μ-loop
 sub-k-5 c =
     let f = c .before .before .before in
     let a = c .before .before .before .before .before .before .before .before .before .before .before .before .args in
-    let q = bounds (a .t1) (a .id) (a .i) (sym (found-is (a .t1) (a .id)) ∙ sym (f .before .before .find .ensures) ∙ f .slot2 .given .1) (sym (c .before .in-range .ensures) ∙ not-false (c .before .in-range .result) (c .if8 .left)) in
+    let q = bounds (a .t1) (a .id) (a .i) (f .before .before .find .ensures) (f .slot2 .given .1) (c .before .in-range .ensures) (c .if8 .left) in
     omega (arith, q .0, q .1, q .2, q .3)
 
 mul-k-3 : tie.Need-mul-k-3 Inv-loop2 μ-loop2 Inv-loop3 μ-loop3 Inv-loop μ-loop
 mul-k-3 c =
     let f = c .before .before .before in
     let a = c .before .before .before .before .before .before .before .before .before .before .before .before .args in
-    let q = bounds (a .t1) (a .id) (a .i) (sym (found-is (a .t1) (a .id)) ∙ sym (f .before .before .find .ensures) ∙ f .slot2 .given .1) (sym (c .before .in-range .ensures) ∙ not-false (c .before .in-range .result) (c .if8 .left)) in
+    let q = bounds (a .t1) (a .id) (a .i) (f .before .before .find .ensures) (f .slot2 .given .1) (c .before .in-range .ensures) (c .if8 .left) in
     omega (arith, q .0, q .1, q .2, q .3)
 
 sub-k-6 : tie.Need-sub-k-6 Inv-loop2 μ-loop2 Inv-loop3 μ-loop3 Inv-loop μ-loop
 sub-k-6 c =
     let f = c .before .before .before in
     let a = c .before .before .before .before .before .before .before .before .before .before .before .before .args in
-    let q = bounds (a .t1) (a .id) (a .i) (sym (found-is (a .t1) (a .id)) ∙ sym (f .before .before .find .ensures) ∙ f .slot2 .given .1) (sym (c .before .in-range .ensures) ∙ not-false (c .before .in-range .result) (c .if8 .left)) in
+    let q = bounds (a .t1) (a .id) (a .i) (f .before .before .find .ensures) (f .slot2 .given .1) (c .before .in-range .ensures) (c .if8 .left) in
     omega (arith, q .0, q .1, q .2, q .3)
 
 add-k-3 : tie.Need-add-k-3 Inv-loop2 μ-loop2 Inv-loop3 μ-loop3 Inv-loop μ-loop
 add-k-3 c =
     let f = c .before .before .before in
     let a = c .before .before .before .before .before .before .before .before .before .before .before .before .args in
-    let q = bounds (a .t1) (a .id) (a .i) (sym (found-is (a .t1) (a .id)) ∙ sym (f .before .before .find .ensures) ∙ f .slot2 .given .1) (sym (c .before .in-range .ensures) ∙ not-false (c .before .in-range .result) (c .if8 .left)) in
+    let q = bounds (a .t1) (a .id) (a .i) (f .before .before .find .ensures) (f .slot2 .given .1) (c .before .in-range .ensures) (c .if8 .left) in
     omega (arith, q .0, q .1, q .2, q .3)
 
 mul-endpoint : tie.Need-mul-endpoint Inv-loop2 μ-loop2 Inv-loop3 μ-loop3 Inv-loop μ-loop
 mul-endpoint c =
     let f = c .before .before .before in
     let a = c .before .before .before .before .before .before .before .before .before .before .before .before .args in
-    let q = bounds (a .t1) (a .id) (a .i) (sym (found-is (a .t1) (a .id)) ∙ sym (f .before .before .find .ensures) ∙ f .slot2 .given .1) (sym (c .before .in-range .ensures) ∙ not-false (c .before .in-range .result) (c .if8 .left)) in
+    let q = bounds (a .t1) (a .id) (a .i) (f .before .before .find .ensures) (f .slot2 .given .1) (c .before .in-range .ensures) (c .if8 .left) in
     omega (arith, q .0, q .1, q .2, q .3)
 
 element-copy-out-endpoint : tie.Need-element-copy-out-endpoint Inv-loop2 μ-loop2 Inv-loop3 μ-loop3 Inv-loop μ-loop
 element-copy-out-endpoint c =
     let f = c .before .before .before in
     let a = c .before .before .before .before .before .before .before .before .before .before .before .before .args in
-    let q = bounds (a .t1) (a .id) (a .i) (sym (found-is (a .t1) (a .id)) ∙ sym (f .before .before .find .ensures) ∙ f .slot2 .given .1) (sym (c .before .in-range .ensures) ∙ not-false (c .before .in-range .result) (c .if8 .left)) in
+    let q = bounds (a .t1) (a .id) (a .i) (f .before .before .find .ensures) (f .slot2 .given .1) (c .before .in-range .ensures) (c .if8 .left) in
     omega (arith, q .0, q .1, q .2, q .3)
 
 returns-9 : tie.Need-returns-9 Inv-loop2 μ-loop2 Inv-loop3 μ-loop3 Inv-loop μ-loop
@@ -332,8 +335,7 @@ returns-9 c =
     let a = l .before .before .before .args in
     let formed = slots-decide (a .t1) (l .before .before .if1 .left) (l .before .if2 .left) (sym (scan-ends (slotOk (a .t1)) (l .loop .inv) (c .before .before .before .before .before .before .before .before .before .loop-test .left))) in
     let f = c .before .before .before .before in
-    head-used (a .t1) (a .len) (a .id) (a .i) formed (f .before .before .before .before .if7 .left) (sym (found-is (a .t1) (a .id)) ∙ sym (f .before .before .find .ensures) ∙ f .slot2 .given .1)
-    (record-is (a .t1) (a .id) (a .i) (sym (c .before .before .in-range .ensures) ∙ not-false (c .before .before .in-range .result) (c .before .if8 .left)))
+    head-inside (a .t1) (a .len) (a .id) (a .i) formed (f .before .before .before .before .if7 .left) (f .before .before .find .ensures) (f .slot2 .given .1) (c .before .before .in-range .ensures) (c .before .if8 .left)
 
 pub opens-spec : {M : Type 1} → statement M
 opens-spec =
