@@ -15,7 +15,7 @@ use definition::{Endpoint, Outcome, Slot, SlotState, Table};
 use guest::Located;
 
 // What the command leaves: both records, and what it answers with.
-#[derive(Drop)]
+#[derive(Clone, Copy)]
 pub struct Device {
     pub slot: Slot,
     pub endpoint: Endpoint,
@@ -25,7 +25,7 @@ pub struct Device {
 }
 
 // A refusal, or what is left.
-#[derive(Drop)]
+#[derive(Clone, Copy)]
 pub enum Addressing {
     Refused(u64),
     Done(Device),

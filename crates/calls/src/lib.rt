@@ -36,7 +36,7 @@ pub const HOST_TRANSACTION_ERROR: usize = 15;
 pub const HOST_TRB_ERROR: usize = 16;
 
 // One call. What it takes of an id, an endpoint's number, a pointer and a flag is its own affair: a limit and DCBAAP come as the id.
-#[derive(Drop)]
+#[derive(Clone, Copy)]
 pub struct Try {
     pub call: usize,
     pub id: u64,

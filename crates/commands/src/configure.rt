@@ -11,7 +11,7 @@ use definition::{Outcome, Slot, SlotState, Table};
 use guest::Located;
 
 // The drop and add flags, of which bits 2 to 31 count, and the slot's next state.
-#[derive(Drop)]
+#[derive(Clone, Copy)]
 pub struct Flags {
     pub drops: u32,
     pub adds: u32,
@@ -19,7 +19,7 @@ pub struct Flags {
 }
 
 // What is to be done, found before anything is stored: a refusal, or a walk whose every range lies in memory.
-#[derive(Drop)]
+#[derive(Clone, Copy)]
 pub enum Plan {
     Refused(u64),
     Walk(Flags),

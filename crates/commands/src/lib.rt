@@ -1,5 +1,7 @@
 // The commands but Address Device, once 198, 194 and 11 are past: each on a well-formed table, over memory of its length, and for a slot that was found.
 // `pointer` is the input context pointer. A refusal gives the table back as it was, and has stored nothing.
+#![tactic(auto)]
+
 pub mod configure;
 pub mod device;
 pub mod outcome;

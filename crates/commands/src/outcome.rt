@@ -9,7 +9,7 @@ ghost use Rattle.commands.specs.Promises.{tallied, Carries, Based};
 use definition::{Answer, Outcome, Slot, SlotState, Table};
 
 // What a command on endpoints answers with.
-#[derive(Drop)]
+#[derive(Clone, Copy)]
 pub struct Tally {
     pub launched: u64,
     pub terminated: u64,

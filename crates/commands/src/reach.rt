@@ -8,7 +8,7 @@ ghost use Rattle.commands.specs.Promises.{Settles, reaching, applied_to, Reaches
 use definition::{Answer, Endpoint, Input, Outcome, Slot, Table};
 
 // What a call leaves of the endpoint that it reaches: a refusal's code; or the endpoint's record, and what the call answers with.
-#[derive(Drop)]
+#[derive(Clone, Copy)]
 pub struct Settled {
     pub refused: bool,
     pub endpoint: Endpoint,

@@ -1,5 +1,7 @@
 // The input context of a command (xHCI 6.2.5): the endpoints that it adds, their types, and where their contexts lie.
 // Nothing here stores. `pointer` is the input context pointer, and an address that wraps is judged by where it comes out.
+#![tactic(auto)]
+
 mod ranges;
 mod types;
 
@@ -10,7 +12,7 @@ ghost use Rattle.contexts.specs.Ranges.{ranges_inside};
 use guest::Located;
 
 // What the context check finds.
-#[derive(Drop)]
+#[derive(Clone, Copy)]
 pub enum Checked {
     // The add flags: the type of every endpoint that they add is accepted.
     Adds(u32),

@@ -8,7 +8,7 @@ use native.Mathlib.Omega.{arith}
 use borrow.Author.Tests.{ltb-true, ltb-false}
 use lib.Dec.{lit<, lit≤}
 use lib.ListN.{length}
-use Rattle.guest.specs.Prog.{every, each, need, Mem, Prog, done, get, put, Ran, ran, run, choose, bind, Result, ok, refuse, and_then}
+use Rattle.guest.specs.Prog.{every, each, need, Mem, Prog, done, get, put, Ran, ran, run, choose, Result, ok, refuse, and_then}
 use Rattle.guest.specs.Forms.{Gives}
 use Rattle.guest.proofs.RunLaws.{run_bind, run_done}
 use Rattle.guest.specs.Bytes.{count}

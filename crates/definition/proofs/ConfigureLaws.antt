@@ -147,9 +147,9 @@ module _ (accepts : ℕ → Bool) (P : ℕ) (t : Table) (id : ℕ) (s : Slot) (m
       seen_then _ _ m a _ (quiet_stores _ m (check_quiet accepts (length m) P)) (passes_check accepts P m passes)
       (seen_need _ _ _ _ m a h.0 (seen_here _ _ _ m a h.1))
   reconfigure_seen (context right passes all i j h) =
-      past right passes all (λ w k l. seen_each _ w k a i (joins_listed i j) (λ y n e o. get_reads _ _ _ n a h))
+      past right passes all (λ w k l. seen_each _ a i w k (joins_listed i j) (λ y n e o. get_reads _ _ _ n a h))
   reconfigure_seen (port right passes all i j h) =
-      past right passes all (λ w k l. seen_each _ w k a i (joins_listed i j) (λ y n e. seen_later _ _ _ n a (seen_put _ _ _ n a (seen_here _ _ _ _ a h))))
+      past right passes all (λ w k l. seen_each _ a i w k (joins_listed i j) (λ y n e. seen_later _ _ _ n a (seen_put _ _ _ n a (seen_here _ _ _ _ a h))))
 
 -- ---- no refusal behind a store
 

@@ -8,7 +8,7 @@ use native.Mathlib.Omega.{arith}
 use lib.Dec.{eqb}
 use lib.ListN.{length, drop, length-take}
 use lib.Seq.{get_or-set_same}
-use Rattle.guest.specs.Bytes.{◌⊕◌, inside, count, set_bits, bit, slot_state_byte}
+use Rattle.guest.specs.Bytes.{◌⊕◌, count, set_bits, bit, slot_state_byte}
 use Rattle.guest.specs.Prog.{Mem, block, run, Within, Store, stores, Touched, Result, ok, refuse}
 use Rattle.guest.proofs.ListLaws.{All, none, more, all_map, count_all, those_all, all_head}
 use Rattle.guest.proofs.ReadLaws.{applied}

@@ -1,9 +1,10 @@
 // The types of the slot table, its calls and their answers. Nothing here runs: specs/ says what each call means.
+#![tactic(auto)]
 
 // ---- the table
 
 // Disabled, and the six states in which an endpoint rests.
-#[derive(Drop)]
+#[derive(Clone, Copy)]
 pub enum EndpointState {
     Disabled,
     Waiting,
@@ -15,14 +16,14 @@ pub enum EndpointState {
 }
 
 // An endpoint: its state, and its place on the transfer ring.
-#[derive(Drop)]
+#[derive(Clone, Copy)]
 pub struct Endpoint {
     pub state: EndpointState,
     pub cycle: bool,
     pub pointer: u64,
 }
 
-#[derive(Drop)]
+#[derive(Clone, Copy)]
 pub enum SlotState {
     Free,
     Enabled,
@@ -32,7 +33,7 @@ pub enum SlotState {
 }
 
 // A slot: its state, the base of its device context, the address of its DCBAA entry.
-#[derive(Drop)]
+#[derive(Clone, Copy)]
 pub struct Slot {
     pub state: SlotState,
     pub base: u64,
@@ -40,7 +41,7 @@ pub struct Slot {
 }
 
 // Slots 1 to 16, and a record for each endpoint 1 to 31 of each slot, in one flat run.
-#[derive(Drop)]
+#[derive(Clone, Copy)]
 pub struct Table {
     pub limit: u64,
     pub length: u64,
@@ -50,7 +51,7 @@ pub struct Table {
 }
 
 // What a look for a slot finds: one in use, or nothing.
-#[derive(Drop)]
+#[derive(Clone, Copy)]
 pub enum Lookup {
     Used(Slot),
     Nothing,
@@ -59,14 +60,14 @@ pub enum Lookup {
 // ---- what comes in
 
 // A place on a transfer ring.
-#[derive(Drop)]
+#[derive(Clone, Copy)]
 pub struct Dequeue {
     pub pointer: u64,
     pub cycle: bool,
 }
 
 // What a look at the transfer ring reports.
-#[derive(Drop)]
+#[derive(Clone, Copy)]
 pub struct Look {
     pub found: bool,
     pub pointer: u64,
@@ -74,14 +75,14 @@ pub struct Look {
 }
 
 // A place that a host event may bring.
-#[derive(Drop)]
+#[derive(Clone, Copy)]
 pub enum Given {
     At(Dequeue),
     Nowhere,
 }
 
 // The nine inputs of an endpoint.
-#[derive(Drop)]
+#[derive(Clone, Copy)]
 pub enum Input {
     Doorbell(Look),
     Stop,
@@ -97,7 +98,7 @@ pub enum Input {
 // ---- the steps
 
 // What an input brings: a place, if it is given, and whether a TRB was found there.
-#[derive(Drop)]
+#[derive(Clone, Copy)]
 pub struct Report {
     pub given: bool,
     pub found: bool,
@@ -106,7 +107,7 @@ pub struct Report {
 }
 
 // An entry of the table of steps.
-#[derive(Drop)]
+#[derive(Clone, Copy)]
 pub struct Row {
     // The answer: 0, 1 or a refusal's code.
     pub code: u8,
@@ -129,7 +130,7 @@ pub struct Row {
 // ---- what goes out
 
 // The answer's eight numbers. Bit i of a mask is endpoint i; submit and cancel are 0 or 1.
-#[derive(Drop)]
+#[derive(Clone, Copy)]
 pub struct Answer {
     pub code: u64,
     pub slot: u64,
@@ -142,7 +143,7 @@ pub struct Answer {
 }
 
 // What a call gives back: the table, and the answer.
-#[derive(Drop)]
+#[derive(Clone, Copy)]
 pub struct Outcome {
     pub table: Table,
     pub answer: Answer,

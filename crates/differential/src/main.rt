@@ -7,7 +7,7 @@ use definition::Table;
 use libc::STDIN_FILENO;
 
 // What some records leave: the table, and whether the run ended.
-#[derive(Drop)]
+#[derive(Clone, Copy)]
 struct Fed {
     table: Table,
     ended: bool,

@@ -1,5 +1,7 @@
 // One endpoint of a device slot: its fifty-four steps (xHCI 4.8.3), its launch and its end.
 // Each function takes the endpoint's record by value, and the lent memory with the index of the endpoint's context.
+#![tactic(auto)]
+
 mod context;
 mod record;
 mod report;
@@ -13,7 +15,7 @@ ghost use Rattle.endpoint.specs.Promises.{Ready, Unmoved, Takes, Launches, Termi
 use definition::{Endpoint, EndpointState, Input, Report, Row};
 
 // What a step leaves: the record, the answer's code, the effects, the count of bytes stored.
-#[derive(Drop)]
+#[derive(Clone, Copy)]
 pub struct Taken {
     pub endpoint: Endpoint,
     pub code: u64,
@@ -23,7 +25,7 @@ pub struct Taken {
 }
 
 // What a termination leaves: the record, the count of bytes stored.
-#[derive(Drop)]
+#[derive(Clone, Copy)]
 pub struct Terminated {
     pub endpoint: Endpoint,
     pub stored: u64,

@@ -33,7 +33,7 @@ const SAVES: u8 = 16;
 const CANCELS: u8 = 32;
 
 // An entry as the constant has it: definition's `Row`, with the next state by its number and the effects as one number.
-#[derive(Drop)]
+#[derive(Clone, Copy)]
 struct Entry {
     code: u8,
     next: u8,

@@ -41,6 +41,7 @@ up_cons (past r u) = inr (r, u)
 
 pub up_reached : (R : ℕ → Type 0) (f : ℕ → Bool) (n k i : ℕ) → Up R i (those f (count n k)) → Reached R f n k i
 unfolding count those
+up_reached R f zero k i u = elim u [ ]
 up_reached R f (suc n) k i u = by (f k) refl (up_reached R f n (k + 1) i) u
   where
     by : (b : Bool) → f k ≡ b → (Up R i (those f (count n (k + 1))) → Reached R f n (k + 1) i) → Up R i (those f (k ∷ count n (k + 1))) → Reached R f (suc n) k i
@@ -96,7 +97,7 @@ module _ (f : ℕ → Prog (Result Unit)) (m : Mem) (quiet : (i : ℕ) → Quiet
       (reads_then (f i) (λ _. every is f p) m a (quiet_stores (f i) m (quiet i)) r)
 
   -- and the other way
-  pub seen_check : {is : List ℕ} (i a : ℕ) → Up (Passes f m) i is → Reads (f i) m a → Seen (every is f p) m a
+  pub seen_check : (i a : ℕ) {is : List ℕ} → Up (Passes f m) i is → Reads (f i) m a → Seen (every is f p) m a
   unfolding every and_then
   seen_check i a now r = λ n. bind_reads (f i) _ m a r
   seen_check i a (past {j} {is} e u) r = seen_then (f j) (λ _. every is f p) m a tt (quiet_stores (f j) m (quiet j)) e (seen_check i a u r)
@@ -156,10 +157,10 @@ reads_each f (i ∷ is) x m a r =
     (reads_bind (f i x) (each is f) m 0 a r)
 
 -- what a turn reads over every memory as long, where it does not store to it, the walk reads, where it does not
-pub seen_each : {A : Type 0} (f : ℕ → A → Prog A) {is : List ℕ} (x : A) (m : Mem) (a i : ℕ) → In i is
+pub seen_each : {A : Type 0} (f : ℕ → A → Prog A) (a i : ℕ) (x : A) (m : Mem) {is : List ℕ} → In i is
     → ((y : A) (k : Mem) → length k ≡ length m → Seen (f i y) k a) → Seen (each is f x) m a
 unfolding each
-seen_each f x m a i (here {is}) h = seen_first (f i x) (each is f) m a (h x m refl)
-seen_each f x m a i (there {j} {is} q) h =
+seen_each f a i x m (here {is}) h = seen_first (f i x) (each is f) m a (h x m refl)
+seen_each f a i x m (there {j} {is} q) h =
     seen_bind (f j x) (each is f) m 0 a
-    (seen_each f (run (f j x) m 0).value (run (f j x) m 0).memory a i q (λ y k e. h y k (e ∙ run_length (f j x) m 0)))
+    (seen_each f a i (run (f j x) m 0).value (run (f j x) m 0).memory q (λ y k e. h y k (e ∙ run_length (f j x) m 0)))

@@ -12,6 +12,7 @@ use Rattle.guest.proofs.ListLaws.{All, none, more}
 
 pub quiet_stores : {A : Type 0} (p : Prog A) (m : Mem) → Quiet p → stores p m ≡ []
 unfolding Quiet stores
+quiet_stores {A = A} (put _ _ _) m f = elim f [ ]
 quiet_stores (done r) m f = refl
 quiet_stores (get a n k) m f = quiet_stores (k (block m a n)) m (f (block m a n))
 
@@ -34,6 +35,7 @@ quiet_need len b n p f = quiet_choose (inside len b n) p (done (refuse 193)) f t
 
 pub quiet_bind : {A B : Type 0} (p : Prog A) (f : A → Prog B) → Quiet p → ((x : A) → Quiet (f x)) → Quiet (bind p f)
 unfolding Quiet bind
+quiet_bind {A = A} {B = B} (put _ _ _) f q g = elim q [ ]
 quiet_bind (done x) f q g = g x
 quiet_bind (get a n k) f q g = λ bs. quiet_bind (k bs) f (q bs) g
 
@@ -55,6 +57,7 @@ quiet_every (i ∷ is) f p g q = quiet_then (f i) _ (g i) (λ _. quiet_every is 
 
 pub blind_reads : {A : Type 0} (p : Prog A) (m : Mem) (a : ℕ) → Blind p → Reads p m a → ⊥
 unfolding Blind Reads
+blind_reads {A = A} (get _ _ _) m a b r = elim b [ ]
 blind_reads (done x) m a b r = r
 blind_reads (put c bs p) m a b r = blind_reads p (splice m c bs) a b r.1
 
@@ -69,11 +72,13 @@ blind_choose false p q f g = g
 
 pub blind_bind : {A B : Type 0} (p : Prog A) (f : A → Prog B) → Blind p → ((x : A) → Blind (f x)) → Blind (bind p f)
 unfolding Blind bind
+blind_bind {A = A} {B = B} (get _ _ _) f b g = elim b [ ]
 blind_bind (done x) f b g = g x
 blind_bind (put a bs p) f b g = blind_bind p f b g
 
 pub blind_then : {A B : Type 0} (p : Prog (Result A)) (f : A → Prog (Result B)) → Blind p → ((x : A) → Blind (f x)) → Blind (and_then p f)
 unfolding and_then bind passed Blind
+blind_then {A = A} {B = B} (get _ _ _) f b g = elim b [ ]
 blind_then (done (ok x)) f b g = g x
 blind_then (done (refuse c)) f b g = tt
 blind_then (put a bs p) f b g = blind_then p f b g
@@ -87,6 +92,7 @@ blind_each (i ∷ is) f x b = blind_bind (f i x) (each is f) (b i x) (λ y. blin
 
 firm_value : {A : Type 0} (p : Prog (Result A)) (m : Mem) (s c : ℕ) → Firm p → (run p m s).value ≡ refuse c → ⊥
 unfolding Firm run
+firm_value {A = A} (done (refuse _)) m s c f e = elim f [ ]
 firm_value (done (ok x)) m s c f e = refuse_ok c x (sym e)
 firm_value (get a n k) m s c f e = firm_value (k (block m a n)) m s c (f (block m a n)) e
 firm_value (put a bs p) m s c f e = firm_value p (splice m a bs) (s + length bs) c f e
@@ -110,6 +116,7 @@ firm_clean (put a bs p) f = f
 
 pub quiet_clean : {A : Type 0} (p : Prog (Result A)) → Quiet p → Clean p
 unfolding Quiet Clean
+quiet_clean {A = A} (put _ _ _) f = elim f [ ]
 quiet_clean (done r) f = tt
 quiet_clean (get a n k) f = λ bs. quiet_clean (k bs) (f bs)
 
@@ -134,6 +141,7 @@ firm_choose false p q f g = g
 
 pub firm_then : {A B : Type 0} (p : Prog (Result A)) (f : A → Prog (Result B)) → Firm p → ((x : A) → Firm (f x)) → Firm (and_then p f)
 unfolding and_then bind passed Firm
+firm_then {A = A} {B = B} (done (refuse _)) f h g = elim h [ ]
 firm_then (done (ok x)) f h g = g x
 firm_then (get a n k) f h g = λ bs. firm_then (k bs) f (h bs) g
 firm_then (put a bs p) f h g = firm_then p f h g
@@ -149,6 +157,7 @@ clean_need len b n p f = clean_choose (inside len b n) p (done (refuse 193)) f t
 
 pub clean_then : {A B : Type 0} (p : Prog (Result A)) (f : A → Prog (Result B)) → Quiet p → ((x : A) → Clean (f x)) → Clean (and_then p f)
 unfolding and_then bind passed Quiet Clean
+clean_then {A = A} {B = B} (put _ _ _) f q g = elim q [ ]
 clean_then (done (ok x)) f q g = g x
 clean_then (done (refuse c)) f q g = tt
 clean_then (get a n k) f q g = λ bs. clean_then (k bs) f (q bs) g

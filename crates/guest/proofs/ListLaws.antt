@@ -34,6 +34,7 @@ in_cases here = inl refl
 in_cases (there n) = inr n
 
 pub all_in : {P : ℕ → Type 0} {is : List ℕ} → All P is → (i : ℕ) → In i is → P i
+all_in {P = P} none i x3 = elim x3 [ ]
 all_in {P} (more p a) i here = p
 all_in {P} (more p a) i (there n) = all_in a i n
 
@@ -92,7 +93,7 @@ those_all P f (i ∷ is) (more p a) = by (f i) refl (those_all P f is a)
     by false e rest = rw (those_no f i is e) rest
 
 -- one that passes is among them
-pub those_in : (f : ℕ → Bool) {is : List ℕ} {i : ℕ} → In i is → f i ≡ true → In i (those f is)
+pub those_in : (f : ℕ → Bool) {i : ℕ} {is : List ℕ} → In i is → f i ≡ true → In i (those f is)
 those_in f (here {is}) e = rw (those_yes f _ is e) here
 those_in f {i = i} (there {j} {is} n) e = by (f j) refl (those_in f n e)
   where

@@ -175,6 +175,7 @@ get_reads b n k m a w = inl w
 
 pub bind_reads : {A B : Type 0} (p : Prog A) (f : A → Prog B) (m : Mem) (a : ℕ) → Reads p m a → Reads (bind p f) m a
 unfolding Reads bind
+bind_reads {A = A} {B = B} (done _) f m a r = elim r [ ]
 bind_reads (get b n k) f m a (inl w) = inl w
 bind_reads (get b n k) f m a (inr r) = inr (bind_reads (k (block m b n)) f m a r)
 bind_reads (put b bs p) f m a r = (r.0, bind_reads p f (splice m b bs) a r.1)

@@ -97,6 +97,7 @@ module _ {C T A : Type 0} (prog : C → ℕ → T → Prog (A × T)) (counted : 
 
     first_named : (es : List (Event C)) (t : T) (m : Mem) (a : ℕ) → NamedFirst prog counted named es t m a → Named prog counted named es t m a
     unfolding NamedFirst Named
+    first_named [] t m a x' = elim x' [ ]
     first_named (e ∷ es) t m a (inl n) = inl n
     first_named (e ∷ es) t m a (inr n) = inr (first_named es (step Act e t m).table (step Act e t m).memory a n.1)
 

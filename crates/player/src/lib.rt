@@ -8,7 +8,7 @@ use definition::Table;
 use libc::STDOUT_FILENO;
 
 // What the next part is replayed from, and whether there is one.
-#[derive(Drop)]
+#[derive(Clone, Copy)]
 struct Played {
     table: Table,
     more: bool,

@@ -1,5 +1,7 @@
 // How a call begins: whether its table is well formed, whether the lent memory is the table's, and which slot it is for.
 // Each function that takes the table indexes it itself, and hands on only single records and numbers.
+#![tactic(auto)]
+
 mod records;
 
 ghost use Rattle.std.specs.Prelude.{◌≡◌, ◌&&◌, leb, eqb};
@@ -9,7 +11,7 @@ ghost use Rattle.scan.specs.Heads.{code_for, head_for, found_in, nothing_with, r
 use definition::{Answer, Endpoint, EndpointState, Lookup, Outcome, Slot, SlotState, Table};
 
 // How a call begins: a refusal's code; or code 0, what the look for its slot found, and the record of its endpoint.
-#[derive(Drop)]
+#[derive(Clone, Copy)]
 pub struct Head {
     pub code: u64,
     pub found: Lookup,

@@ -7,7 +7,7 @@ ghost use Rattle.scan.specs.Records.{has_contexts, own_ok, in_use, clear};
 use definition::{Endpoint, EndpointState, Slot, SlotState};
 
 // What is wrong with an endpoint's record: all are 0 or false where nothing is.
-#[derive(Drop)]
+#[derive(Clone, Copy)]
 pub struct Faults {
     pub flags: u8,
     pub cycle: bool,

@@ -1,7 +1,7 @@
 // The cases, act by act. A script that is over goes on with `Act::End`.
 
 // What a case is made of: guest stores, calls, and looks at what they leave.
-#[derive(Drop)]
+#[derive(Clone, Copy)]
 pub enum Act {
     // A guest store at an address: of a byte, and of eight bytes.
     Byte(usize, u64),
@@ -17,7 +17,7 @@ pub enum Act {
     End,
 }
 
-#[derive(Drop)]
+#[derive(Clone, Copy)]
 pub enum Call {
     Enable,
     Address,
@@ -27,11 +27,11 @@ pub enum Call {
 }
 
 // An answer's code, slot, launched, terminated and stored. Root port, submit and cancel are 0 in all cases.
-#[derive(Drop)]
+#[derive(Clone, Copy)]
 pub struct Says(pub u64, pub u64, pub u64, pub u64, pub u64);
 
 // Some have a case's number, the input context's pointer, and the answer that the document expects.
-#[derive(Drop)]
+#[derive(Clone, Copy)]
 pub enum Script {
     // Enable Slot.
     Enable(u64, Says),

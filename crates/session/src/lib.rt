@@ -8,7 +8,7 @@ use definition::{Answer, Table};
 use trace::Entry;
 
 // What a run leaves, beside the memory and the answers.
-#[derive(Drop)]
+#[derive(Clone, Copy)]
 pub struct Ran {
     pub table: Table,
     // 0; or why nothing was run: 198, 194, or 200 where the answers may not fit.

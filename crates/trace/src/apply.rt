@@ -11,7 +11,7 @@ use crate::{Asked, Call};
 use definition::{Input, Outcome, Table};
 
 // What is sent to an endpoint: its input, and the codes where there is no such slot, and no such endpoint.
-#[derive(Drop)]
+#[derive(Clone, Copy)]
 struct Message {
     input: Input,
     slotless: u64,

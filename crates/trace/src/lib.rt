@@ -5,7 +5,7 @@ pub mod record;
 use definition::{Dequeue, Given, Look};
 
 // What a record tells: a call, a guest store, or nothing that it could.
-#[derive(Drop)]
+#[derive(Clone, Copy)]
 pub enum Entry {
     Call(Call),
     Store(Byte),
@@ -13,14 +13,14 @@ pub enum Entry {
 }
 
 // A guest store of one byte.
-#[derive(Drop)]
+#[derive(Clone, Copy)]
 pub struct Byte {
     pub address: u64,
     pub value: u8,
 }
 
 // The calls, with a slot's id where they have one.
-#[derive(Drop)]
+#[derive(Clone, Copy)]
 pub enum Call {
     SetLimit(u64),
     SetDcbaap(u64),
@@ -35,7 +35,7 @@ pub enum Call {
 }
 
 // A command over an input context: the slot's id, the input context pointer, and BSR or DC.
-#[derive(Drop)]
+#[derive(Clone, Copy)]
 pub struct Contexts {
     pub id: u64,
     pub pointer: u64,
@@ -43,7 +43,7 @@ pub struct Contexts {
 }
 
 // A call that reaches endpoint i of slot id.
-#[derive(Drop)]
+#[derive(Clone, Copy)]
 pub struct Reach {
     pub id: u64,
     pub i: u64,
@@ -51,7 +51,7 @@ pub struct Reach {
 }
 
 // What it is asked: a command, a doorbell or a host event.
-#[derive(Drop)]
+#[derive(Clone, Copy)]
 pub enum Asked {
     Stop,
     Reset,

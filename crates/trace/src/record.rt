@@ -6,7 +6,7 @@ use crate::{Asked, Byte, Call, Contexts, Entry, Reach};
 use definition::{Dequeue, Given, Look};
 
 // The record's fields, with the bytes between and after them as numbers.
-#[derive(Drop)]
+#[derive(Clone, Copy)]
 pub struct Fields {
     pub kind: u8,
     pub slot: u64,
@@ -19,7 +19,7 @@ pub struct Fields {
 }
 
 // Which fields a kind uses. The flag is below `flags`: 1 where no bit is used, 2 where bit 0 is, 4 where bits 0 and 1 are.
-#[derive(Drop)]
+#[derive(Clone, Copy)]
 pub struct Uses {
     pub slot: bool,
     pub endpoint: bool,

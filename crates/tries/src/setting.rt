@@ -4,7 +4,7 @@ ghost use Rattle.std.specs.Prelude.{◌≤◌, length};
 use definition::{Endpoint, EndpointState, Slot, SlotState, Table};
 
 // What the guest's memory holds: the base in slot 2's DCBAA entry, the flags in the input contexts, and a type byte.
-#[derive(Drop)]
+#[derive(Clone, Copy)]
 pub struct Guest {
     pub base: u64,
     pub flags: u64,

@@ -8,7 +8,7 @@ use native.Mathlib.Nat.{one-mul, zero-mul, add-zero}
 use native.Mathlib.Omega.{arith}
 use lib.ListN.{length}
 use lib.Pow.{pow_pos, pow_mono, pow-lt, pow-add, shl_exact}
-use Rattle.guest.specs.Bytes.{◌⊕◌, count}
+use Rattle.guest.specs.Bytes.{◌⊕◌}
 use Rattle.guest.specs.Prog.{Mem, Prog, done, bind, Ends}
 use Rattle.guest.proofs.RunLaws.{ends_from, ends_value}
 use Rattle.guest.proofs.LoopLaws.{Loop, loop_begins, loop_goes, loop_skips, loop_ends}

@@ -1,5 +1,7 @@
 // Walks over a slot's endpoints: many terminated, many copied and launched, with the masks, the root port and the count
 // of bytes stored that a command answers with. Nothing is refused here: the caller knows that each context lies in memory.
+#![tactic(auto)]
+
 ghost use Rattle.std.specs.Prelude.{◌≡◌, false, ◌+◌, ◌-◌, ◌*◌, ◌^◌, ◌≤◌, ◌<◌, length};
 ghost use Rattle.guest.specs.Bytes.{◌⊕◌, count, set_bits};
 ghost use Rattle.definition.specs.Table.{is_disabled};
@@ -10,7 +12,7 @@ use definition::{Endpoint, Slot, SlotState, Table};
 use endpoint::Terminated;
 
 // What terminations leave: the table, the mask of those that were enabled, the count of bytes stored.
-#[derive(Drop)]
+#[derive(Clone, Copy)]
 pub struct Ended {
     pub table: Table,
     pub terminated: u64,
@@ -18,14 +20,14 @@ pub struct Ended {
 }
 
 // What a launch leaves: the endpoint's record, and the root port.
-#[derive(Drop)]
+#[derive(Clone, Copy)]
 pub struct Launched {
     pub endpoint: Endpoint,
     pub port: u64,
 }
 
 // What adds leave: the table, the mask of those launched, the root port, the count of bytes stored.
-#[derive(Drop)]
+#[derive(Clone, Copy)]
 pub struct Added {
     pub table: Table,
     pub launched: u64,
@@ -34,7 +36,7 @@ pub struct Added {
 }
 
 // What is left when every slot is freed: the table, the count of bytes stored.
-#[derive(Drop)]
+#[derive(Clone, Copy)]
 pub struct Freed {
     pub table: Table,
     pub stored: u64,

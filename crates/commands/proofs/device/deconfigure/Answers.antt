@@ -1,0 +1,8 @@
+-- `commands::device::deconfigure` meets its contract. Assumes nothing.
+use borrow.Author.Rules.{rules}
+use Rattle.commands.proofs.OutcomeLaws.{deconfigured}
+use Rattle.commands.proofs.device.deconfigure.Goals as goal
+
+pub returns : goal.returns
+returns c = let a = c.args in
+    deconfigured a.id a.slot a.next a.t c.terminate_from-w.ensures c.finish.ensures
