@@ -1,6 +1,5 @@
 -- `commands::configure::configure_endpoint` meets its contract. Assumes nothing.
 use native.Mathlib.Omega.{arith}
-use borrow.Author.Rules.{rules}
 use Rattle.commands.proofs.OutcomeLaws.{opened_slot, opened_rooms, settled_based}
 use Rattle.commands.proofs.ConfigureLaws.{spaces_kept, walk_carried, planned, configure_refused, configured}
 use Rattle.commands.proofs.configure.configure_endpoint.Goals as goal

@@ -1,8 +1,6 @@
 -- `commands::configure::flags_of` meets its contract. Assumes nothing.
 use mathlib.Core.Path.{sym, ◌∙◌}
-use borrow.Author.Tests.{not-true, not-false}
 use lib.ListN.{length}
-use borrow.Author.Rules.{rules}
 use Rattle.guest.proofs.RunLaws.{located_fits}
 use Rattle.commands.proofs.ConfigureLaws.{check_refused, drops_outside, ranges_outside, reconfigures, ranges_space, plan_refuses, plan_goes}
 use Rattle.commands.proofs.configure.flags_of.Goals as goal

@@ -1,7 +1,5 @@
 -- `commands::configure::plan_of` meets its contract. Assumes nothing.
 use mathlib.Core.Path.{sym, ◌∙◌}
-use borrow.Author.Tests.{not-true, not-false}
-use borrow.Author.Rules.{rules}
 use Rattle.commands.proofs.ConfigureLaws.{plan_unsettled, plan_drops}
 use Rattle.commands.proofs.configure.plan_of.Goals as goal
 

@@ -1,5 +1,4 @@
 -- `commands::device::deconfigure` meets its contract. Assumes nothing.
-use borrow.Author.Rules.{rules}
 use Rattle.commands.proofs.OutcomeLaws.{deconfigured}
 use Rattle.commands.proofs.device.deconfigure.Goals as goal
 

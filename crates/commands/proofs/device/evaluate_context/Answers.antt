@@ -1,6 +1,5 @@
 -- `commands::device::evaluate_context` meets its contract. Assumes nothing.
 use mathlib.Core.Path.{◌∙◌}
-use borrow.Author.Rules.{rules}
 use Rattle.guest.proofs.RunLaws.{run_done}
 use Rattle.definition.specs.Calls.{prog, meaning}
 use Rattle.definition.specs.Commands as commands

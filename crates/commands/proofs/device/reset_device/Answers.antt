@@ -1,8 +1,6 @@
 -- `commands::device::reset_device` meets its contract. Assumes nothing.
 use mathlib.Core.Path.{sym, ◌∙◌}
 use native.Mathlib.Omega.{arith}
-use borrow.Author.Tests.{not-true, not-false}
-use borrow.Author.Rules.{rules}
 use Rattle.definition.specs.Calls.{prog, meaning}
 use Rattle.definition.specs.Commands as commands
 use Rattle.scan.proofs.OpeningLaws.{refuses_at_once, meets_as}

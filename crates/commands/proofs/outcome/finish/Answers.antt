@@ -1,5 +1,4 @@
 -- `commands::outcome::finish` meets its contract. Assumes nothing.
-use borrow.Author.Rules.{rules}
 use Rattle.definition.specs.Table.{with_slot}
 use Rattle.commands.proofs.OutcomeLaws.{finished}
 use Rattle.commands.proofs.outcome.finish.Goals as goal

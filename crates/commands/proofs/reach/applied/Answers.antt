@@ -1,6 +1,5 @@
 -- `commands::reach::applied` meets its contract. Assumes nothing.
 use mathlib.Core.Path.{refl}
-use borrow.Author.Rules.{rules}
 use Rattle.definition.specs.Table.{with_endpoint}
 use Rattle.commands.proofs.reach.applied.Goals as goal
 

@@ -1,6 +1,5 @@
 -- `commands::reach::reach` meets its contract. Assumes nothing.
 use native.Mathlib.Omega.{arith}
-use borrow.Author.Rules.{rules}
 use Rattle.definition.specs.Table.{endpoint_of}
 use Rattle.commands.proofs.ReachLaws.{own_record, settle_ready, reach_zero, reach_high, reach_refuses, reach_applies}
 use Rattle.commands.proofs.reach.reach.Goals as goal

@@ -1,7 +1,5 @@
 -- `commands::reach::settle` meets its contract. Assumes nothing.
 use mathlib.Core.Path.{sym, ◌∙◌}
-use native.Mathlib.Omega.{arith}
-use borrow.Author.Rules.{rules}
 use Rattle.commands.proofs.ReachLaws.{settled_disabled, settled_stepped}
 use Rattle.commands.proofs.reach.settle.Goals as goal
 
@@ -12,5 +10,5 @@ returns-then-is_disabled c = let a = c.args in
 pub returns : goal.returns
 returns c = let a = c.args in
     let d = sym c.is_disabled.ensures ∙ c.if-is_disabled.false in
-    let k = rw (c.index-at.ensures, c.plus.ensures) c c.step-r.ensures in
+    let k = rw (c.index-at.ensures, c.plus.ensures) at c.step-r.ensures in
     rw (c.bit-2.ensures, c.bit.ensures) (settled_stepped a.slot a.i a.input a.absent d k)
