@@ -146,13 +146,13 @@ pub plan_in : {state at : SlotState} {bsr is : Bool} → state ≡ at → bsr �
 plan_in e f = cc
 
 -- the states that no arm names
-pub plan_other : (state : SlotState) (bsr : Bool) → OneOf (0 ∷ 3 ∷ 4 ∷ []) (tag_of the_type state) → plan state bsr ≡ never
+pub plan_other : (state : SlotState) (bsr : Bool) → (state ≡ Enabled → ⊥) → (state ≡ Default → ⊥) → plan state bsr ≡ never
 unfolding plan
-plan_other Free bsr h = refl
-plan_other Enabled bsr h = absurd (⊎_elim (λ e. omega arith) (⊎_elim (λ e. omega arith) (λ e. omega arith)) h)
-plan_other Default bsr h = absurd (⊎_elim (λ e. omega arith) (⊎_elim (λ e. omega arith) (λ e. omega arith)) h)
-plan_other Addressed bsr h = refl
-plan_other Configured bsr h = refl
+plan_other Free bsr e d = refl
+plan_other Enabled bsr e d = absurd (e refl)
+plan_other Default bsr e d = absurd (d refl)
+plan_other Addressed bsr e d = refl
+plan_other Configured bsr e d = refl
 
 -- ---- the whole
 

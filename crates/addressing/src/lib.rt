@@ -1,4 +1,6 @@
 // Address Device (xHCI 4.6.5). Only endpoint 1 and the slot's own record change, so that all but the last two functions do without the table.
+#![tactic(auto)]
+
 ghost use Rattle.std.specs.Prelude.{◌≡◌, false, ◌+◌, ◌≤◌, ◌<◌, length};
 ghost use Rattle.addressing.specs.Types.{Default, Addressed};
 ghost use Rattle.definition.specs.Table.{is_disabled};

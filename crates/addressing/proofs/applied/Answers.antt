@@ -1,0 +1,8 @@
+-- `addressing::applied` meets its contract. Assumes nothing.
+use borrow.Author.Rules.{rules}
+use Rattle.definition.specs.Table.{with_slot}
+use Rattle.addressing.proofs.applied.Goals as goal
+
+pub returns : goal.returns
+unfolding with_slot
+returns c = c.success.ensures
