@@ -1,14 +1,11 @@
 -- What the code of Address Device does is what the definition's program does.
 -- Assumes nothing.
 use mathlib.Core.Path.{◌≡◌, refl, sym, ◌∙◌}
-use mathlib.Core.Logic.{⊎_elim}
 use mathlib.Core.Bool.{Bool, false}
 use mathlib.Core.List.{List, [], ◌∷◌}
 use Prim.Native.Nat.{ℕ, ◌+◌, ◌*◌, ◌≤◌}
 use native.Mathlib.Nat.{add-zero}
 use native.Mathlib.Omega.{arith}
-use types.Run.{OneOf}
-use denote.Enum.Declared.{tag_of}
 use lib.ListN.{length}
 use lib.Seq.{set-set}
 use Rattle.guest.specs.Bytes.{number, ◌⊕◌, located, slot_state_byte}
@@ -23,7 +20,6 @@ use Rattle.definition.specs.Commands.{Told, context_state, walked, Plan, fresh, 
 use Rattle.definition.specs.Calls as calls
 use Rattle.definition.specs.Calls.{meaning, prog}
 use Rattle.definition.specs.Rules.{Opened}
-use Rattle.definition.specs.contracts.SlotState.{the_type}
 use Rattle.definition.proofs.HeadLaws.{slot_opens}
 use Rattle.definition.proofs.FormedFacts.{InUse}
 use Rattle.endpoint.specs.Promises.{Terminates}

@@ -1,7 +1,6 @@
 -- `addressing::address_device` meets its contract. Assumes nothing.
 use mathlib.Core.Path.{refl}
 use native.Mathlib.Omega.{arith}
-use borrow.Author.Rules.{rules}
 use Rattle.commands.proofs.OutcomeLaws.{opened_slot}
 use Rattle.addressing.proofs.AddressLaws.{default_fits, device_answers}
 use Rattle.addressing.proofs.address_device.Goals as goal

@@ -1,5 +1,4 @@
 -- `addressing::applied` meets its contract. Assumes nothing.
-use borrow.Author.Rules.{rules}
 use Rattle.definition.specs.Table.{with_slot}
 use Rattle.addressing.proofs.applied.Goals as goal
 

@@ -1,5 +1,4 @@
 -- `addressing::attempt` meets its contract. Assumes nothing.
-use borrow.Author.Rules.{rules}
 use Rattle.definition.specs.Commands.{plan}
 use Rattle.addressing.proofs.AddressLaws.{plan_in, plan_other, attempt_unchecked, attempt_goes, attempt_never}
 use Rattle.addressing.proofs.attempt.Goals as goal

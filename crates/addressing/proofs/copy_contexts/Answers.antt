@@ -1,6 +1,5 @@
 -- `addressing::copy_contexts` meets its contract. Assumes nothing.
 use native.Mathlib.Omega.{arith}
-use borrow.Author.Rules.{rules}
 use Rattle.addressing.proofs.AddressLaws.{copied}
 use Rattle.addressing.proofs.copy_contexts.Goals as goal
 
