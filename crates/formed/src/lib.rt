@@ -1,5 +1,7 @@
 // The calls on a slot for a caller that has proved its table well formed and of the memory's length: each promises what its namesake does, without the scan.
 // Every call keeps a table so (`stays_ready`). The calls on no slot stand in `registers`.
+#![tactic(auto)]
+
 ghost use Rattle.definition.specs.Calls.{disable_slot, address_device, configure_endpoint, evaluate_context, reset_device, stop_endpoint, reset_endpoint, set_dequeue, doorbell, host_ok, host_stall, host_transaction_error, host_trb_error};
 ghost use Rattle.std.specs.Prelude.{length};
 ghost use Rattle.definition.specs.Commands.{endpoint_call};

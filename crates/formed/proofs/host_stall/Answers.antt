@@ -1,0 +1,7 @@
+-- `formed::host_stall` meets its contract. Assumes nothing.
+use Rattle.definition.specs.Calls.{meaning, prog}
+use Rattle.formed.proofs.host_stall.Goals as goal
+
+pub returns : goal.returns
+unfolding meaning prog
+returns c = c.reach.ensures

@@ -1,0 +1,7 @@
+-- `formed::reset_endpoint` meets its contract. Assumes nothing.
+use Rattle.definition.specs.Calls.{meaning, prog}
+use Rattle.formed.proofs.reset_endpoint.Goals as goal
+
+pub returns : goal.returns
+unfolding meaning prog
+returns c = c.reach.ensures

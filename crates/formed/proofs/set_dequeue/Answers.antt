@@ -1,0 +1,7 @@
+-- `formed::set_dequeue` meets its contract. Assumes nothing.
+use Rattle.definition.specs.Calls.{meaning, prog}
+use Rattle.formed.proofs.set_dequeue.Goals as goal
+
+pub returns : goal.returns
+unfolding meaning prog
+returns c = c.reach.ensures
