@@ -1,5 +1,7 @@
 // The slot manager's calls. None asks anything of its caller: whatever the numbers, the table and the memory, the outcome and every byte of memory
 // are what the definition's program for the call gives. 198 comes first, then 194, then 11.
+#![tactic(auto)]
+
 ghost use Rattle.std.specs.Prelude.{◌≡◌, length};
 ghost use Rattle.definition.specs.Commands.{endpoint_call};
 ghost use Rattle.definition.specs.Calls.{set_limit, set_dcbaap, enable_slot, reset_all, disable_slot, address_device, configure_endpoint, evaluate_context, reset_device, stop_endpoint, reset_endpoint, set_dequeue, doorbell, host_ok, host_stall, host_transaction_error, host_trb_error, made};

@@ -1,4 +1,6 @@
 // Recorded sessions: records of 32 bytes, each a call or a guest store of one byte. docs/TRACE.md has the layout and numbers the kinds.
+#![tactic(auto)]
+
 pub mod apply;
 pub mod record;
 

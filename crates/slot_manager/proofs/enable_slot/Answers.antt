@@ -1,0 +1,12 @@
+-- `slot_manager::enable_slot` meets its contract. Assumes nothing.
+use mathlib.Core.Path.{sym, ◌∙◌}
+use borrow.Author.Tests.{not-true, not-false}
+use borrow.Author.Rules.{rules}
+use Rattle.definition.specs.Commands as commands
+use Rattle.definition.specs.Calls.{meaning, prog}
+use Rattle.scan.proofs.OpeningLaws.{refuses_malformed}
+use Rattle.slot_manager.proofs.enable_slot.Goals as goal
+
+pub returns-then-not-well_formed : goal.returns-then-not-well_formed
+unfolding prog meaning commands.enable_slot
+returns-then-not-well_formed c = λ m. rw c.refused.ensures (refuses_malformed c.args.t c.well_formed-2.ensures _ m c.if-not-well_formed.true)
