@@ -1,6 +1,5 @@
 -- `registers::enable_slot` meets its contract. Assumes nothing.
 use mathlib.Core.Path.{sym, ◌∙◌}
-use borrow.Author.Rules.{rules}
 use Rattle.definition.specs.Table.{with_slot}
 use Rattle.definition.proofs.FormedFacts.{formed_limit}
 use Rattle.registers.proofs.RegisterLaws.{enabled, none_free}

@@ -1,9 +1,7 @@
 -- `registers::first_free` meets its contract. Assumes nothing.
 use mathlib.Core.Path.{sym, ◌∙◌}
-use Prim.Native.Nat.{◌+◌, ◌-◌}
 use native.Mathlib.Omega.{arith}
-use borrow.Author.Rules.{rules}
-use Rattle.registers.proofs.RegisterLaws.{Sought, sought_begins, sought_found, sought_next, sought_none}
+use Rattle.registers.proofs.RegisterLaws.{sought_begins, sought_found, sought_next, sought_none}
 use Rattle.registers.proofs.first_free.Goals as goal
 
 pub loop-id-init : goal.loop-id-init

@@ -1,6 +1,5 @@
 -- `registers::reset_all` meets its contract. Assumes nothing.
 use native.Mathlib.Omega.{arith}
-use borrow.Author.Rules.{rules}
 use Rattle.walks.proofs.RoomLaws.{formed_all_rooms}
 use Rattle.definition.specs.Table.{with_registers}
 use Rattle.registers.proofs.RegisterLaws.{all_reset}

@@ -1,5 +1,4 @@
 -- `registers::set_dcbaap` meets its contract. Assumes nothing.
-use borrow.Author.Rules.{rules}
 use Rattle.definition.specs.Table.{with_registers}
 use Rattle.registers.proofs.RegisterLaws.{dcbaap_set}
 use Rattle.registers.proofs.set_dcbaap.Goals as goal

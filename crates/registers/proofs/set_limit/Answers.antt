@@ -1,6 +1,5 @@
 -- `registers::set_limit` meets its contract. Assumes nothing.
 use native.Mathlib.Omega.{arith}
-use borrow.Author.Rules.{rules}
 use Rattle.definition.specs.Table.{with_registers}
 use Rattle.registers.proofs.RegisterLaws.{limit_set, limit_refused}
 use Rattle.registers.proofs.set_limit.Goals as goal

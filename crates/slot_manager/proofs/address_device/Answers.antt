@@ -1,5 +1,4 @@
 -- `slot_manager::address_device` meets its contract. Assumes nothing.
-use borrow.Author.Rules.{rules}
 use Rattle.definition.specs.Calls.{prog}
 use Rattle.commands.proofs.OutcomeLaws.{opened_slot}
 use Rattle.addressing.proofs.AddressLaws.{default_fits, device_answers}

@@ -1,5 +1,4 @@
 -- `slot_manager::configure_endpoint` meets its contract. Assumes nothing.
-use borrow.Author.Rules.{rules}
 use Rattle.definition.specs.Calls.{prog}
 use Rattle.formed.proofs.CallLaws.{configures, head_refused, absent_refused, head_opens}
 use Rattle.slot_manager.proofs.configure_endpoint.Goals as goal

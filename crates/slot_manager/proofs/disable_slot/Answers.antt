@@ -1,5 +1,4 @@
 -- `slot_manager::disable_slot` meets its contract. Assumes nothing.
-use borrow.Author.Rules.{rules}
 use Rattle.definition.specs.Calls.{prog}
 use Rattle.formed.proofs.CallLaws.{disables, head_refused, absent_refused, head_opens}
 use Rattle.slot_manager.proofs.disable_slot.Goals as goal

@@ -1,5 +1,4 @@
 -- `slot_manager::evaluate_context` meets its contract. Assumes nothing.
-use borrow.Author.Rules.{rules}
 use Rattle.definition.specs.Calls.{prog}
 use Rattle.formed.proofs.CallLaws.{evaluates, head_refused, absent_refused, head_opens}
 use Rattle.slot_manager.proofs.evaluate_context.Goals as goal

@@ -1,5 +1,4 @@
 -- `slot_manager::host_stall` meets its contract. Assumes nothing.
-use borrow.Author.Rules.{rules}
 use Rattle.definition.specs.Calls.{meaning, prog}
 use Rattle.slot_manager.proofs.host_stall.Goals as goal
 

@@ -1,5 +1,4 @@
 -- `slot_manager::host_transaction_error` meets its contract. Assumes nothing.
-use borrow.Author.Rules.{rules}
 use Rattle.definition.specs.Calls.{meaning, prog}
 use Rattle.slot_manager.proofs.host_transaction_error.Goals as goal
 

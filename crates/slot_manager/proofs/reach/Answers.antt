@@ -1,5 +1,4 @@
 -- `slot_manager::reach` meets its contract. Assumes nothing.
-use borrow.Author.Rules.{rules}
 use Rattle.scan.proofs.OpeningLaws.{head_record}
 use Rattle.commands.proofs.ReachLaws.{settle_ready, reach_refuses, reach_applies, reach_found}
 use Rattle.commands.proofs.OutcomeLaws.{opened_slot}

@@ -1,5 +1,4 @@
 -- `slot_manager::reset_all` meets its contract. Assumes nothing.
-use borrow.Author.Rules.{rules}
 use Rattle.definition.specs.Commands as commands
 use Rattle.definition.specs.Calls.{meaning, prog}
 use Rattle.scan.proofs.OpeningLaws.{refuses_lent, is_lent}

@@ -1,5 +1,4 @@
 -- `slot_manager::reset_device` meets its contract. Assumes nothing.
-use borrow.Author.Rules.{rules}
 use Rattle.definition.specs.Calls.{prog}
 use Rattle.formed.proofs.CallLaws.{resets, head_refused, absent_refused, head_opens}
 use Rattle.slot_manager.proofs.reset_device.Goals as goal

@@ -1,5 +1,4 @@
 -- `slot_manager::reset_endpoint` meets its contract. Assumes nothing.
-use borrow.Author.Rules.{rules}
 use Rattle.definition.specs.Calls.{meaning, prog}
 use Rattle.slot_manager.proofs.reset_endpoint.Goals as goal
 

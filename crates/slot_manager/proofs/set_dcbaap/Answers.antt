@@ -1,7 +1,4 @@
 -- `slot_manager::set_dcbaap` meets its contract. Assumes nothing.
-use mathlib.Core.Path.{sym, ◌∙◌}
-use borrow.Author.Tests.{not-true, not-false}
-use borrow.Author.Rules.{rules}
 use Rattle.definition.specs.Commands as commands
 use Rattle.definition.specs.Calls.{meaning, prog}
 use Rattle.scan.proofs.OpeningLaws.{refuses_malformed}

@@ -1,5 +1,4 @@
 -- `slot_manager::set_dequeue` meets its contract. Assumes nothing.
-use borrow.Author.Rules.{rules}
 use Rattle.definition.specs.Calls.{meaning, prog}
 use Rattle.slot_manager.proofs.set_dequeue.Goals as goal
 
