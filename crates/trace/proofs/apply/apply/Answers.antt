@@ -1,5 +1,4 @@
 -- `trace::apply::apply` meets its contract. Assumes nothing.
-use borrow.Author.Rules.{rules}
 use Rattle.trace.specs.Events.{call_of}
 use Rattle.trace.proofs.ApplyLaws.{answers_as, answers_meaning}
 use Rattle.trace.proofs.apply.apply.Goals as goal
@@ -18,15 +17,15 @@ returns-in-EnableSlot c = answers_as c.in-EnableSlot.is _ _ (c.enable_slot.ensur
 
 pub returns-in-DisableSlot : goal.returns-in-DisableSlot
 unfolding call_of
-returns-in-DisableSlot c = let w = c in answers_as w.in-DisableSlot.is _ _ w.disable_slot.ensures
+returns-in-DisableSlot c = answers_as c.in-DisableSlot.is _ _ c.disable_slot.ensures
 
 pub returns-in-AddressDevice : goal.returns-in-AddressDevice
 unfolding call_of
-returns-in-AddressDevice c = let w = c in answers_as w.in-AddressDevice.is _ _ w.address_device.ensures
+returns-in-AddressDevice c = answers_as c.in-AddressDevice.is _ _ c.address_device.ensures
 
 pub returns-in-ConfigureEndpoint : goal.returns-in-ConfigureEndpoint
 unfolding call_of
-returns-in-ConfigureEndpoint c = let w = c in answers_as w.in-ConfigureEndpoint.is _ _ w.configure_endpoint.ensures
+returns-in-ConfigureEndpoint c = answers_as c.in-ConfigureEndpoint.is _ _ c.configure_endpoint.ensures
 
 pub returns-in-EvaluateContext : goal.returns-in-EvaluateContext
 unfolding call_of
@@ -34,14 +33,12 @@ returns-in-EvaluateContext c = answers_as c.in-EvaluateContext.is _ _ c.evaluate
 
 pub returns-in-ResetDevice : goal.returns-in-ResetDevice
 unfolding call_of
-returns-in-ResetDevice c = let w = c in answers_as w.in-ResetDevice.is _ _ w.reset_device.ensures
+returns-in-ResetDevice c = answers_as c.in-ResetDevice.is _ _ c.reset_device.ensures
 
 pub returns-in-ResetAll : goal.returns-in-ResetAll
 unfolding call_of
-returns-in-ResetAll c = let w = c in answers_as w.in-ResetAll.is _ _ w.reset_all.ensures
+returns-in-ResetAll c = answers_as c.in-ResetAll.is _ _ c.reset_all.ensures
 
 pub returns-in-Endpoint : goal.returns-in-Endpoint
 unfolding call_of
-returns-in-Endpoint c = let w = c in
-    let s = w in
-    answers_as s.in-Endpoint.is _ _ (answers_meaning _ _ _ (s.sent-s.ensures _ _ _ _) w.reach.ensures)
+returns-in-Endpoint c = answers_as c.in-Endpoint.is _ _ (answers_meaning _ _ _ (c.sent-s.ensures _ _ _ _) c.reach.ensures)

@@ -1,6 +1,5 @@
 -- `trace::apply::sent` meets its contract. Assumes nothing.
 use mathlib.Core.Path.{ap}
-use borrow.Author.Rules.{rules}
 use Rattle.definition.specs.Calls.{meaning}
 use Rattle.trace.specs.declared.Asked.{Asked}
 use Rattle.trace.specs.Events.{asks}

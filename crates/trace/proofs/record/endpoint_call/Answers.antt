@@ -28,4 +28,4 @@ pub returns-in-17 : goal.returns-in-17
 returns-in-17 c len = rw c.reach-in-17.ensures (told_at 17 len c.args.f c.in-17.is)
 
 pub returns-in_default : goal.returns-in_default
-returns-in_default c len = told_unknown len c.args.f c.requires.0 c.requires.1 c.in-10.rest
+returns-in_default c len = told_unknown len c.args.f c.requires.0 c.requires.1 (search rules)

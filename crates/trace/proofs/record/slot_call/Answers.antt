@@ -31,4 +31,4 @@ pub returns-in-9 : goal.returns-in-9
 returns-in-9 c len = told_at 9 len c.args.f c.in-9.is
 
 pub returns-in_default : goal.returns-in_default
-returns-in_default c len = told_none len c.args.f c.requires c.in-1.rest
+returns-in_default c len = told_none len c.args.f c.requires (search rules)

@@ -1,7 +1,6 @@
 -- `trace::record::tell` meets its contract. Assumes nothing.
 use mathlib.Core.Path.{◌∙◌}
 use Rattle.trace.proofs.RecordLaws.{told_at}
-use borrow.Author.Rules.{rules}
 use Rattle.trace.proofs.record.tell.Goals as goal
 
 pub returns-then-kind-eq18 : goal.returns-then-kind-eq18
