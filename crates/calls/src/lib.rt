@@ -1,4 +1,6 @@
 // The public calls of the slot manager, each by a number, and one value for a call with what it brings.
+#![tactic(auto)]
+
 use definition::{Dequeue, Given, Look, Outcome, Table};
 
 pub const SET_LIMIT: usize = 0;

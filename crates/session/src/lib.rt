@@ -1,4 +1,6 @@
 // A recorded session, replayed: its records one after the other, each a call or a guest store of one byte.
+#![tactic(auto)]
+
 ghost use Rattle.std.specs.Prelude.{◌≡◌, ◌+◌, ◌*◌, ◌≤◌, ◌<◌, length};
 ghost use Rattle.guest.specs.Prog.{splice};
 ghost use Rattle.formed.specs.Promises.{Ready};
