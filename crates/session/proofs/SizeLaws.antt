@@ -1,6 +1,6 @@
 -- The arrays of a table have their lengths, as its type says: `own` is what a function is told of a table that it is handed.
 -- Assumes nothing.
-use mathlib.Core.Path.{◌≡◌, refl, sym, ap, ◌∙◌}
+use mathlib.Core.Path.{◌≡◌, refl, ap}
 use mathlib.Core.List.{List, [], ◌∷◌, map}
 use Prim.Native.Nat.{suc}
 use lib.ListN.{length}
@@ -9,8 +9,6 @@ use denote.Laws.{Is}
 use denote.Struct.Declared.{row}
 use Rattle.definition.specs.declared.Table.{Table}
 use Rattle.definition.specs.contracts.Table.{the_type}
-use Rattle.definition.specs.contracts.Slot as slot-type
-use Rattle.definition.specs.contracts.Endpoint as endpoint-type
 use Rattle.definition.proofs.TableLaws.{Sized}
 
 pub length_map : {A B : Type 0} (f : A → B) (xs : List A) → length (map f xs) ≡ length xs
@@ -21,6 +19,6 @@ pub table_sized : (t : Table) (vs : List Val) → Is (row the_type) t vs → Siz
 table_sized t vs own =
     let fields = own.1.1 in
     record {
-      slots = sym (length_map (slot-type.the_field).into t.slots) ∙ fields.1.1.1.0.1.0.1;
-      endpoints = sym (length_map (endpoint-type.the_field).into t.endpoints) ∙ fields.1.1.1.1.0.1.0.1;
+      slots = fields.1.1.1.0.1.0.1;
+      endpoints = fields.1.1.1.1.0.1.0.1;
     }

@@ -1,5 +1,4 @@
 -- `session::next` meets its contract. Assumes nothing.
-use borrow.Author.Rules.{rules}
 use Rattle.session.proofs.RecordLaws.{next_short, next_whole}
 use Rattle.session.proofs.next.Goals as goal
 

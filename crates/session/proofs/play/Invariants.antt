@@ -1,11 +1,7 @@
 -- `session::play` meets its contract. Assumes nothing.
 use Prim.Native.Nat.{◌-◌}
-use native.Mathlib.Omega.{arith}
 use lib.ListN.{length}
-use borrow.Author.Rules.{rules}
-use Rattle.session.proofs.StoreLaws.{stores_inside}
-use Rattle.session.proofs.SizeLaws.{table_sized}
-use Rattle.session.proofs.SessionLaws.{Going, going_begins, going_ready, going_room, going_ends, going_bad, going_stores, going_calls}
+use Rattle.session.proofs.SessionLaws.{Going}
 use Rattle.session.proofs.play.Given as goal
 
 abbrev pub invariant-loop-at : goal.invariant-loop-at

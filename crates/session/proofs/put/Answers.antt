@@ -1,6 +1,5 @@
 -- `session::put` meets its contract. Assumes nothing.
 use native.Mathlib.Omega.{arith}
-use borrow.Author.Rules.{rules}
 use Rattle.guest.proofs.LentLaws.{lent}
 use Rattle.session.proofs.put.Goals as goal
 

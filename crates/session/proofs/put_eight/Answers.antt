@@ -1,8 +1,5 @@
 -- `session::put_eight` meets its contract. Assumes nothing.
 use mathlib.Core.Path.{sym}
-use native.Mathlib.Omega.{arith}
-use lib.ListN.{length-set}
-use borrow.Author.Rules.{rules}
 use Rattle.guest.proofs.SpliceLaws.{splice_sets}
 use Rattle.session.proofs.put_eight.Goals as goal
 

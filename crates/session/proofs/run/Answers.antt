@@ -1,6 +1,4 @@
 -- `session::run` meets its contract. Assumes nothing.
-use borrow.Author.Tests.{not-true, not-false}
-use borrow.Author.Rules.{rules}
 use Rattle.session.proofs.RunLaws.{runs_malformed, runs_roomless, run_ready, run_room, runs_played}
 use Rattle.session.proofs.run.Goals as goal
 
@@ -8,19 +6,13 @@ pub returns-then-code-ne0 : goal.returns-then-code-ne0
 returns-then-code-ne0 c = runs_malformed _ _ _ _ c.checks-code.ensures c.if-code-ne0.true
 
 pub returns-then-not-has_room : goal.returns-then-not-has_room
-returns-then-not-has_room c = let f = c in
-    runs_roomless _ _ _ _ f.checks-code.ensures f.if-code-ne0.false f.has_room.ensures c.if-not-has_room.true
+returns-then-not-has_room c = runs_roomless _ _ _ _ c.checks-code.ensures c.if-code-ne0.false c.has_room.ensures c.if-not-has_room.true
 
 pub play-requires : goal.play-requires
-play-requires c = let i = c in
-    let f = i in
-    let k = f.checks-code.ensures in
-    let a = f.args in
-    let z = f.if-code-ne0.false in
-    let r = f.has_room.ensures in record { ready = run_ready a.t a.mem.now a.records.now a.answers.now k z r; records_in_bounds = run_room a.t a.mem.now a.records.now a.answers.now k z r i.if-not-has_room.false }
+play-requires c = let k = c.checks-code.ensures in
+    let a = c.args in
+    let z = c.if-code-ne0.false in
+    let r = c.has_room.ensures in record { ready = run_ready a.t a.mem.now a.records.now a.answers.now k z r; records_in_bounds = run_room a.t a.mem.now a.records.now a.answers.now k z r c.if-not-has_room.false }
 
 pub returns : goal.returns
-returns c = let p = c in
-    let i = p in
-    let f = i in
-    runs_played _ _ _ _ f.checks-code.ensures f.if-code-ne0.false f.has_room.ensures i.if-not-has_room.false p.play.ensures
+returns c = runs_played _ _ _ _ c.checks-code.ensures c.if-code-ne0.false c.has_room.ensures c.if-not-has_room.false c.play.ensures
