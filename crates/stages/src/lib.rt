@@ -1,5 +1,7 @@
 // The start tables of the bench, and the look at its last one.
 // The driver has put DCBAA entry 1 and three input contexts into the memory: endpoint 1; 3 dropped and added; 2 to 31 dropped and added.
+#![tactic(auto)]
+
 use definition::{Outcome, Table};
 
 fn input(k: u64) -> u64 {
