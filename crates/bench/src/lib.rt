@@ -1,5 +1,7 @@
 // Loops for a driver in another language: each makes a start table (`stages`), calls the slot manager n times, and gives the sum of the answers' codes.
 // Every turn begins from the same start. `zero` is 0, which the compiler cannot know: no turn can begin before the one in front of it has answered.
+#![tactic(auto)]
+
 ghost use Rattle.formed.specs.Promises.{Ready};
 
 use definition::{Dequeue, Look, Table};

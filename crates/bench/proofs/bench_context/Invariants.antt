@@ -1,0 +1,12 @@
+-- `bench::bench_context` meets its contract. Assumes nothing.
+use Prim.Native.Nat.{◌≤◌, ◌-◌}
+use mathlib.Core.Path.{◌≡◌}
+use lib.ListN.{length}
+use borrow.Author.Rules.{rules}
+use Rattle.bench.proofs.bench_context.Given as goal
+
+abbrev pub invariant-loop-turn : goal.invariant-loop-turn
+invariant-loop-turn l = (l.turn ≤ l.n) × (length l.mem ≡ length l.initial.mem)
+
+abbrev pub decreases-loop-turn : goal.decreases-loop-turn
+decreases-loop-turn l = l.n - l.turn
