@@ -2,6 +2,8 @@
 use crate::show;
 use definition::{Endpoint, Outcome, Table};
 use scripts::{Act, Call, Script};
+use std::io;
+use std::io::Write;
 
 // "Memory 4096", a limit, "DCBAAP 256".
 fn table(limit: u64) -> Table {
@@ -54,41 +56,48 @@ fn make(t: Table, mem: &mut [u8], call: Call, id: u64, number: u64, flag: bool) 
 }
 
 // An act that is no call. Endpoint 1 of slot 1 is e.
-fn other(mem: &mut [u8; 4096], e: Endpoint, a: Act) {
+fn other<W: Write>(out: &mut W, mem: &mut [u8; 4096], e: Endpoint, a: Act) -> io::Result<()> {
     match a {
-        Act::Byte(at, number) => byte(mem, at, number),
-        Act::Word(at, number) => word(mem, at, number),
-        Act::See(case, at, number) => show::byte(mem, case, at, number),
-        Act::SeeWord(case, at, number) => show::word(mem, case, at, number),
-        Act::Place(case, number) => show::place(case, e, number),
-        _ => {}
+        Act::Byte(at, number) => {
+            byte(mem, at, number);
+            Ok(())
+        }
+        Act::Word(at, number) => {
+            word(mem, at, number);
+            Ok(())
+        }
+        Act::See(case, at, number) => show::byte(out, mem, case, at, number),
+        Act::SeeWord(case, at, number) => show::word(out, mem, case, at, number),
+        Act::Place(case, number) => show::place(out, case, e, number),
+        _ => Ok(()),
     }
 }
 
-fn perform(t: Table, mem: &mut [u8; 4096], a: Act) -> Table {
+fn perform<W: Write>(out: &mut W, t: Table, mem: &mut [u8; 4096], a: Act) -> io::Result<Table> {
     if let Act::Tried(case, call, id, number, flag, expected) = a {
         let r = make(t, mem, call, id, number, flag);
         if case != 0 {
-            show::request(case, call, id, number, flag);
+            show::request(out, case, call, id, number, flag)?;
             let came = r.answer;
-            show::answers(expected, came);
+            show::answers(out, expected, came)?;
         }
-        return r.table;
+        return Ok(r.table);
     }
     let e = t.endpoints[0];
-    other(mem, e, a);
-    t
+    other(out, mem, e, a)?;
+    Ok(t)
 }
 
 // A script on a fresh table of a slot limit, and a memory of its own, whose entry at 264 holds a base. None has more than 128 acts.
-pub fn run(limit: u64, base: u64, script: Script) {
-    show::setting(limit, base);
+pub fn run<W: Write>(out: &mut W, limit: u64, base: u64, script: Script) -> io::Result<()> {
+    show::setting(out, limit, base)?;
     let mut mem = [0u8; 4096];
     memory(&mut mem, base);
     let mut t = table(limit);
     let mut i: usize = 0;
     while i < 128 {
-        t = perform(t, &mut mem, scripts::step(script, i));
+        t = perform(out, t, &mut mem, scripts::step(script, i))?;
         i += 1;
     }
+    Ok(())
 }

@@ -1,78 +1,86 @@
 // What is written: what is tried or looked at, what is expected, what came, and whether they are the same.
 use definition::{Answer, Endpoint};
-use libc::STDOUT_FILENO;
 use scripts::{Call, Says};
+use std::io;
+use std::io::Write;
 
-fn text(t: &[u8]) {
-    io::write_all(STDOUT_FILENO, t);
+fn text<W: Write>(out: &mut W, t: &[u8]) -> io::Result<()> {
+    out.write_all(t)
 }
 
-fn number(n: u64) {
-    text(b" ");
-    io::print_decimal(STDOUT_FILENO, n);
+fn number<W: Write>(out: &mut W, n: u64) -> io::Result<()> {
+    text(out, b" ")?;
+    write!(out, "{n}")
 }
 
-fn named(name: &[u8], n: u64) {
-    text(name);
-    number(n);
+fn named<W: Write>(out: &mut W, name: &[u8], n: u64) -> io::Result<()> {
+    text(out, name)?;
+    number(out, n)
 }
 
 fn bit(b: bool) -> u64 {
     if b { 1 } else { 0 }
 }
 
-fn verdict(same: bool) {
+fn verdict<W: Write>(out: &mut W, same: bool) -> io::Result<()> {
     if same {
-        text(b" same\n");
+        text(out, b" same\n")
     } else {
-        text(b" different\n");
+        text(out, b" different\n")
     }
 }
 
-fn case(n: u64) {
-    named(b"case", n);
+fn case<W: Write>(out: &mut W, n: u64) -> io::Result<()> {
+    named(out, b"case", n)
 }
 
-fn compare(expected: u64, came: u64) {
-    named(b": expected", expected);
-    named(b" came", came);
-    verdict(expected == came);
+fn compare<W: Write>(out: &mut W, expected: u64, came: u64) -> io::Result<()> {
+    named(out, b": expected", expected)?;
+    named(out, b" came", came)?;
+    verdict(out, expected == came)
 }
 
 // A heading: the setting of the lines below.
-pub fn setting(limit: u64, base: u64) {
-    named(b"limit", limit);
-    named(b" base", base);
-    text(b"\n");
+pub fn setting<W: Write>(out: &mut W, limit: u64, base: u64) -> io::Result<()> {
+    named(out, b"limit", limit)?;
+    named(out, b" base", base)?;
+    text(out, b"\n")
 }
 
-fn call(c: Call) {
+fn call<W: Write>(out: &mut W, c: Call) -> io::Result<()> {
     match c {
-        Call::Enable => text(b" enable-slot"),
-        Call::Address => text(b" address-device"),
-        Call::Configure => text(b" configure-endpoint"),
-        Call::Stop => text(b" stop-endpoint"),
-        Call::ResetAll => text(b" reset-all"),
+        Call::Enable => text(out, b" enable-slot"),
+        Call::Address => text(out, b" address-device"),
+        Call::Configure => text(out, b" configure-endpoint"),
+        Call::Stop => text(out, b" stop-endpoint"),
+        Call::ResetAll => text(out, b" reset-all"),
     }
 }
 
-pub fn request(n: u64, c: Call, id: u64, argument: u64, flag: bool) {
-    case(n);
-    call(c);
-    number(id);
-    number(argument);
-    number(bit(flag));
+pub fn request<W: Write>(
+    out: &mut W,
+    n: u64,
+    c: Call,
+    id: u64,
+    argument: u64,
+    flag: bool,
+) -> io::Result<()> {
+    case(out, n)?;
+    call(out, c)?;
+    number(out, id)?;
+    number(out, argument)?;
+    number(out, bit(flag))
 }
 
-fn numbers(a: Answer) {
-    number(a.code);
-    number(a.slot);
-    number(a.launched);
-    number(a.terminated);
-    number(a.port);
-    number(a.stored);
-    number(a.submit);
-    number(a.cancel);
+fn numbers<W: Write>(out: &mut W, a: Answer) -> io::Result<()> {
+    number(out, a.code)?;
+    number(out, a.slot)?;
+    number(out, a.launched)?;
+    number(out, a.terminated)?;
+    number(out, a.port)?;
+    number(out, a.stored)?;
+    number(out, a.submit)?;
+    number(out, a.cancel)
 }
 
 // No bit of the eight numbers differs.
@@ -82,7 +90,7 @@ fn same(a: Answer, b: Answer) -> bool {
     first | second | (a.submit ^ b.submit) | (a.cancel ^ b.cancel) == 0
 }
 
-pub fn answers(s: Says, came: Answer) {
+pub fn answers<W: Write>(out: &mut W, s: Says, came: Answer) -> io::Result<()> {
     let expected = Answer {
         code: s.0,
         slot: s.1,
@@ -93,39 +101,53 @@ pub fn answers(s: Says, came: Answer) {
         submit: 0,
         cancel: 0,
     };
-    text(b": expected");
-    numbers(expected);
-    text(b" came");
-    numbers(came);
-    verdict(same(expected, came));
+    text(out, b": expected")?;
+    numbers(out, expected)?;
+    text(out, b" came")?;
+    numbers(out, came)?;
+    verdict(out, same(expected, came))
 }
 
 // The document's pointer, with its cycle in bit 0.
-pub fn place(n: u64, e: Endpoint, expected: u64) {
-    case(n);
-    text(b" endpoint 1 pointer");
-    compare(expected - expected % 2, e.pointer);
-    case(n);
-    text(b" endpoint 1 cycle");
-    compare(expected % 2, bit(e.cycle));
+pub fn place<W: Write>(out: &mut W, n: u64, e: Endpoint, expected: u64) -> io::Result<()> {
+    case(out, n)?;
+    text(out, b" endpoint 1 pointer")?;
+    compare(out, expected - expected % 2, e.pointer)?;
+    case(out, n)?;
+    text(out, b" endpoint 1 cycle")?;
+    compare(out, expected % 2, bit(e.cycle))
 }
 
 fn wide(b: u8) -> u64 {
     b as u64
 }
 
-pub fn byte(mem: &[u8; 4096], n: u64, at: usize, expected: u64) {
+pub fn byte<W: Write>(
+    out: &mut W,
+    mem: &[u8; 4096],
+    n: u64,
+    at: usize,
+    expected: u64,
+) -> io::Result<()> {
     if at < 4096 {
-        case(n);
-        named(b" byte", at as u64);
-        compare(expected, wide(mem[at]));
+        case(out, n)?;
+        named(out, b" byte", at as u64)?;
+        compare(out, expected, wide(mem[at]))?;
     }
+    Ok(())
 }
 
-pub fn word(mem: &[u8; 4096], n: u64, at: usize, expected: u64) {
+pub fn word<W: Write>(
+    out: &mut W,
+    mem: &[u8; 4096],
+    n: u64,
+    at: usize,
+    expected: u64,
+) -> io::Result<()> {
     if at <= 4088 {
-        case(n);
-        named(b" eight bytes", at as u64);
-        compare(expected, guest::words::read_u64(mem, at));
+        case(out, n)?;
+        named(out, b" eight bytes", at as u64)?;
+        compare(out, expected, guest::words::read_u64(mem, at))?;
     }
+    Ok(())
 }

@@ -3,123 +3,126 @@
 // A place is pointer and cycle. Pointers are in hexadecimal, and so is memory: five words of 8 bytes, the context's 32 from byte 8 on.
 // The file stdout was not made by a run: tests/make_steps.py, a script that was written from the scope document, made it.
 // oracle/steps.py holds it against the unchanged Rust, line by line, where the Rust has an answer.
+#![tactic(auto)]
+
 ghost use Rattle.std.specs.Prelude.{◌≡◌, false, eqb};
 ghost use Rattle.definition.specs.Table.{endpoint_number};
 
 use definition::{Dequeue, Endpoint, EndpointState, Given, Input, Look};
-use libc::STDOUT_FILENO;
+use std::io;
+use std::io::{BufWriter, Write};
 
 // A place that a step may take, and one that it must refuse where it uses it.
 const ALIGNED: u64 = 0x2340;
 
 const UNALIGNED: u64 = 0x2348;
 
-fn text(t: &[u8]) {
-    io::write_all(STDOUT_FILENO, t);
+fn text<W: Write>(out: &mut W, t: &[u8]) -> io::Result<()> {
+    out.write_all(t)
 }
 
-fn number(n: u64) {
-    text(b" ");
-    io::print_decimal(STDOUT_FILENO, n);
+fn number<W: Write>(out: &mut W, n: u64) -> io::Result<()> {
+    text(out, b" ")?;
+    write!(out, "{n}")
 }
 
-fn pointer(p: u64) {
-    text(b" ");
-    io::print_hex(STDOUT_FILENO, p, 1);
+fn pointer<W: Write>(out: &mut W, p: u64) -> io::Result<()> {
+    text(out, b" ")?;
+    write!(out, "{p:x}")
 }
 
-fn flag(b: bool) {
+fn flag<W: Write>(out: &mut W, b: bool) -> io::Result<()> {
     if b {
-        text(b" 1");
+        text(out, b" 1")
     } else {
-        text(b" 0");
+        text(out, b" 0")
     }
 }
 
-fn state(s: EndpointState) {
+fn state<W: Write>(out: &mut W, s: EndpointState) -> io::Result<()> {
     match s {
-        EndpointState::Disabled => text(b"disabled"),
-        EndpointState::Waiting => text(b"waiting"),
-        EndpointState::InFlight => text(b"in-flight"),
-        EndpointState::Halted => text(b"halted"),
-        EndpointState::Error => text(b"error"),
-        EndpointState::StoppedContinuable => text(b"stopped-continuable"),
-        EndpointState::Stopped => text(b"stopped"),
+        EndpointState::Disabled => text(out, b"disabled"),
+        EndpointState::Waiting => text(out, b"waiting"),
+        EndpointState::InFlight => text(out, b"in-flight"),
+        EndpointState::Halted => text(out, b"halted"),
+        EndpointState::Error => text(out, b"error"),
+        EndpointState::StoppedContinuable => text(out, b"stopped-continuable"),
+        EndpointState::Stopped => text(out, b"stopped"),
     }
 }
 
-fn dequeue(d: Dequeue) {
-    pointer(d.pointer);
-    flag(d.cycle);
+fn dequeue<W: Write>(out: &mut W, d: Dequeue) -> io::Result<()> {
+    pointer(out, d.pointer)?;
+    flag(out, d.cycle)
 }
 
-fn look(l: Look) {
-    flag(l.found);
-    pointer(l.pointer);
-    flag(l.cycle);
+fn look<W: Write>(out: &mut W, l: Look) -> io::Result<()> {
+    flag(out, l.found)?;
+    pointer(out, l.pointer)?;
+    flag(out, l.cycle)
 }
 
-fn given(g: Given) {
+fn given<W: Write>(out: &mut W, g: Given) -> io::Result<()> {
     match g {
-        Given::At(d) => dequeue(d),
-        Given::Nowhere => text(b" nowhere"),
+        Given::At(d) => dequeue(out, d),
+        Given::Nowhere => text(out, b" nowhere"),
     }
 }
 
-fn input(i: Input) {
+fn input<W: Write>(out: &mut W, i: Input) -> io::Result<()> {
     match i {
         Input::Doorbell(l) => {
-            text(b" doorbell");
-            look(l);
+            text(out, b" doorbell")?;
+            look(out, l)
         }
-        Input::Stop => text(b" stop"),
-        Input::Reset => text(b" reset"),
+        Input::Stop => text(out, b" stop"),
+        Input::Reset => text(out, b" reset"),
         Input::SetDequeue(d) => {
-            text(b" set-dequeue");
-            dequeue(d);
+            text(out, b" set-dequeue")?;
+            dequeue(out, d)
         }
-        Input::Terminate => text(b" terminate"),
+        Input::Terminate => text(out, b" terminate"),
         Input::Ok(l) => {
-            text(b" ok");
-            look(l);
+            text(out, b" ok")?;
+            look(out, l)
         }
         Input::Stall(g) => {
-            text(b" stall");
-            given(g);
+            text(out, b" stall")?;
+            given(out, g)
         }
         Input::TransactionError(g) => {
-            text(b" transaction-error");
-            given(g);
+            text(out, b" transaction-error")?;
+            given(out, g)
         }
-        Input::TrbError => text(b" trb-error"),
+        Input::TrbError => text(out, b" trb-error"),
     }
 }
 
-fn word(w: u64) {
-    text(b" ");
-    io::print_hex(STDOUT_FILENO, w, 16);
+fn word<W: Write>(out: &mut W, w: u64) -> io::Result<()> {
+    text(out, b" ")?;
+    write!(out, "{w:016x}")
 }
 
-fn memory(mem: &[u8; 40]) {
-    text(b" |");
-    word(guest::words::read_u64(mem, 0));
-    word(guest::words::read_u64(mem, 8));
-    word(guest::words::read_u64(mem, 16));
-    word(guest::words::read_u64(mem, 24));
-    word(guest::words::read_u64(mem, 32));
-    text(b"\n");
+fn memory<W: Write>(out: &mut W, mem: &[u8; 40]) -> io::Result<()> {
+    text(out, b" |")?;
+    word(out, guest::words::read_u64(mem, 0))?;
+    word(out, guest::words::read_u64(mem, 8))?;
+    word(out, guest::words::read_u64(mem, 16))?;
+    word(out, guest::words::read_u64(mem, 24))?;
+    word(out, guest::words::read_u64(mem, 32))?;
+    text(out, b"\n")
 }
 
-fn record(e: Endpoint) {
+fn record<W: Write>(out: &mut W, e: Endpoint) -> io::Result<()> {
     let s = e.state;
-    text(b" | ");
-    state(s);
-    pointer(e.pointer);
-    flag(e.cycle);
+    text(out, b" | ")?;
+    state(out, s)?;
+    pointer(out, e.pointer)?;
+    flag(out, e.cycle)
 }
 
 // One step of an endpoint at place 1230 with cycle 1, over memory that is ee all over.
-fn step(s: EndpointState, i: Input)
+fn step<W: Write>(out: &mut W, s: EndpointState, i: Input) -> io::Result<()>
     requires { eqb (endpoint_number s) 0 ≡ false }
 {
     let mut mem = [0xeeu8; 40];
@@ -129,16 +132,16 @@ fn step(s: EndpointState, i: Input)
         pointer: 0x1230,
     };
     let r = endpoint::step(e, i, &mut mem, 8);
-    state(s);
-    input(i);
-    text(b" |");
-    number(r.code);
-    flag(r.submit);
-    flag(r.cancel);
-    number(r.stored);
+    state(out, s)?;
+    input(out, i)?;
+    text(out, b" |")?;
+    number(out, r.code)?;
+    flag(out, r.submit)?;
+    flag(out, r.cancel)?;
+    number(out, r.stored)?;
     let f = r.endpoint;
-    record(f);
-    memory(&mem);
+    record(out, f)?;
+    memory(out, &mem)
 }
 
 fn place(p: u64, cycle: bool) -> Dequeue {
@@ -153,73 +156,78 @@ fn report(found: bool, p: u64, cycle: bool) -> Look {
     }
 }
 
-fn doorbells(s: EndpointState)
+fn doorbells<W: Write>(out: &mut W, s: EndpointState) -> io::Result<()>
     requires { eqb (endpoint_number s) 0 ≡ false }
 {
-    step(s, Input::Doorbell(report(false, ALIGNED, true)));
-    step(s, Input::Doorbell(report(true, ALIGNED, false)));
-    step(s, Input::Doorbell(report(false, UNALIGNED, true)));
-    step(s, Input::Doorbell(report(true, UNALIGNED, true)));
+    step(out, s, Input::Doorbell(report(false, ALIGNED, true)))?;
+    step(out, s, Input::Doorbell(report(true, ALIGNED, false)))?;
+    step(out, s, Input::Doorbell(report(false, UNALIGNED, true)))?;
+    step(out, s, Input::Doorbell(report(true, UNALIGNED, true)))
 }
 
-fn commands(s: EndpointState)
+fn commands<W: Write>(out: &mut W, s: EndpointState) -> io::Result<()>
     requires { eqb (endpoint_number s) 0 ≡ false }
 {
-    step(s, Input::Stop);
-    step(s, Input::Reset);
-    step(s, Input::SetDequeue(place(ALIGNED, false)));
-    step(s, Input::SetDequeue(place(ALIGNED, true)));
-    step(s, Input::SetDequeue(place(UNALIGNED, true)));
-    step(s, Input::Terminate);
+    step(out, s, Input::Stop)?;
+    step(out, s, Input::Reset)?;
+    step(out, s, Input::SetDequeue(place(ALIGNED, false)))?;
+    step(out, s, Input::SetDequeue(place(ALIGNED, true)))?;
+    step(out, s, Input::SetDequeue(place(UNALIGNED, true)))?;
+    step(out, s, Input::Terminate)
 }
 
-fn completions(s: EndpointState)
+fn completions<W: Write>(out: &mut W, s: EndpointState) -> io::Result<()>
     requires { eqb (endpoint_number s) 0 ≡ false }
 {
-    step(s, Input::Ok(report(false, ALIGNED, true)));
-    step(s, Input::Ok(report(true, ALIGNED, false)));
-    step(s, Input::Ok(report(false, UNALIGNED, true)));
-    step(s, Input::Ok(report(true, UNALIGNED, true)));
+    step(out, s, Input::Ok(report(false, ALIGNED, true)))?;
+    step(out, s, Input::Ok(report(true, ALIGNED, false)))?;
+    step(out, s, Input::Ok(report(false, UNALIGNED, true)))?;
+    step(out, s, Input::Ok(report(true, UNALIGNED, true)))
 }
 
-fn errors(s: EndpointState)
+fn errors<W: Write>(out: &mut W, s: EndpointState) -> io::Result<()>
     requires { eqb (endpoint_number s) 0 ≡ false }
 {
-    step(s, Input::Stall(Given::At(place(ALIGNED, false))));
-    step(s, Input::Stall(Given::At(place(UNALIGNED, true))));
-    step(s, Input::Stall(Given::Nowhere));
-    step(s, Input::TransactionError(Given::At(place(ALIGNED, false))));
+    step(out, s, Input::Stall(Given::At(place(ALIGNED, false))))?;
+    step(out, s, Input::Stall(Given::At(place(UNALIGNED, true))))?;
+    step(out, s, Input::Stall(Given::Nowhere))?;
     step(
+        out,
+        s,
+        Input::TransactionError(Given::At(place(ALIGNED, false))),
+    )?;
+    step(
+        out,
         s,
         Input::TransactionError(Given::At(place(UNALIGNED, true))),
-    );
-    step(s, Input::TransactionError(Given::Nowhere));
-    step(s, Input::TrbError);
+    )?;
+    step(out, s, Input::TransactionError(Given::Nowhere))?;
+    step(out, s, Input::TrbError)
 }
 
 // The nine inputs in one state.
-fn row(s: EndpointState)
+fn row<W: Write>(out: &mut W, s: EndpointState) -> io::Result<()>
     requires { eqb (endpoint_number s) 0 ≡ false }
 {
-    doorbells(s);
-    commands(s);
-    completions(s);
-    errors(s);
+    doorbells(out, s)?;
+    commands(out, s)?;
+    completions(out, s)?;
+    errors(out, s)
 }
 
 // The launch of an endpoint whose context has this dequeue word.
-fn launch(w: u64) {
+fn launch<W: Write>(out: &mut W, w: u64) -> io::Result<()> {
     let mut mem = [0xeeu8; 40];
     guest::context::store_pointer(&mut mem, 8, w);
     let e = endpoint::launch(&mut mem, 8);
-    text(b"launch");
-    pointer(w);
-    record(e);
-    memory(&mem);
+    text(out, b"launch")?;
+    pointer(out, w)?;
+    record(out, e)?;
+    memory(out, &mem)
 }
 
 // The end of an endpoint in a state, at a place.
-fn terminate(s: EndpointState, d: Dequeue) {
+fn terminate<W: Write>(out: &mut W, s: EndpointState, d: Dequeue) -> io::Result<()> {
     let mut mem = [0xeeu8; 40];
     let e = Endpoint {
         state: s,
@@ -228,30 +236,36 @@ fn terminate(s: EndpointState, d: Dequeue) {
     };
     let r = endpoint::terminate(e, &mut mem, 8);
     let f = r.endpoint;
-    text(b"terminate ");
-    state(s);
-    text(b" |");
-    number(r.stored);
-    record(f);
-    memory(&mem);
+    text(out, b"terminate ")?;
+    state(out, s)?;
+    text(out, b" |")?;
+    number(out, r.stored)?;
+    record(out, f)?;
+    memory(out, &mem)
 }
 
-fn main() {
-    row(EndpointState::Waiting);
-    row(EndpointState::InFlight);
-    row(EndpointState::Halted);
-    row(EndpointState::Error);
-    row(EndpointState::StoppedContinuable);
-    row(EndpointState::Stopped);
-    launch(0x2341);
-    launch(0x234f);
-    launch(0x234e);
-    launch(0xffff_ffff_ffff_ffff);
-    terminate(EndpointState::Disabled, place(0, false));
-    terminate(EndpointState::Waiting, place(ALIGNED, true));
-    terminate(EndpointState::InFlight, place(ALIGNED, true));
-    terminate(EndpointState::Halted, place(ALIGNED, true));
-    terminate(EndpointState::Error, place(ALIGNED, true));
-    terminate(EndpointState::StoppedContinuable, place(ALIGNED, true));
-    terminate(EndpointState::Stopped, place(ALIGNED, true));
+fn main(rt: HostRuntime) -> io::Result<()> {
+    let mut out = BufWriter::new(rt.alloc(), io::writer(&rt))?;
+    row(&mut out, EndpointState::Waiting)?;
+    row(&mut out, EndpointState::InFlight)?;
+    row(&mut out, EndpointState::Halted)?;
+    row(&mut out, EndpointState::Error)?;
+    row(&mut out, EndpointState::StoppedContinuable)?;
+    row(&mut out, EndpointState::Stopped)?;
+    launch(&mut out, 0x2341)?;
+    launch(&mut out, 0x234f)?;
+    launch(&mut out, 0x234e)?;
+    launch(&mut out, 0xffff_ffff_ffff_ffff)?;
+    terminate(&mut out, EndpointState::Disabled, place(0, false))?;
+    terminate(&mut out, EndpointState::Waiting, place(ALIGNED, true))?;
+    terminate(&mut out, EndpointState::InFlight, place(ALIGNED, true))?;
+    terminate(&mut out, EndpointState::Halted, place(ALIGNED, true))?;
+    terminate(&mut out, EndpointState::Error, place(ALIGNED, true))?;
+    terminate(
+        &mut out,
+        EndpointState::StoppedContinuable,
+        place(ALIGNED, true),
+    )?;
+    terminate(&mut out, EndpointState::Stopped, place(ALIGNED, true))?;
+    out.flush()
 }

@@ -1,4 +1,5 @@
 // The cases, act by act. A script that is over goes on with `Act::End`.
+#![tactic(auto)]
 
 // What a case is made of: guest stores, calls, and looks at what they leave.
 #[derive(Clone, Copy)]

@@ -1,15 +1,16 @@
 // What is written: the call with its numbers, the answer's eight numbers, and the checksums after the call.
 use calls::Try;
 use definition::Answer;
-use libc::STDOUT_FILENO;
+use std::io;
+use std::io::Write;
 
-pub fn text(t: &[u8]) {
-    io::write_all(STDOUT_FILENO, t);
+pub fn text<W: Write>(out: &mut W, t: &[u8]) -> io::Result<()> {
+    out.write_all(t)
 }
 
-pub fn number(n: u64) {
-    text(b" ");
-    io::print_decimal(STDOUT_FILENO, n);
+pub fn number<W: Write>(out: &mut W, n: u64) -> io::Result<()> {
+    text(out, b" ")?;
+    write!(out, "{n}")
 }
 
 // A byte of a call's name, and a space behind it. The names are in the order of the calls' numbers, 22 bytes to each.
@@ -39,59 +40,66 @@ fn letter(c: usize, k: usize) -> u8 {
     b' '
 }
 
-fn name(c: usize) {
+fn name<W: Write>(out: &mut W, c: usize) -> io::Result<()> {
     let mut k: usize = 0;
     while k < 22 {
         let b = letter(c, k);
         if b == b' ' {
-            return;
+            return Ok(());
         }
         let one = [b];
-        text(&one);
+        text(out, &one)?;
         k += 1;
     }
+    Ok(())
 }
 
 // The call with its numbers.
-pub fn attempt(x: Try) {
-    name(x.call);
-    number(x.id);
-    number(x.i);
-    number(x.pointer);
-    number(x.flag as u64);
+pub fn attempt<W: Write>(out: &mut W, x: Try) -> io::Result<()> {
+    name(out, x.call)?;
+    number(out, x.id)?;
+    number(out, x.i)?;
+    number(out, x.pointer)?;
+    number(out, x.flag as u64)
 }
 
 // A heading: the numbers that all calls under it share.
-pub fn every(n: usize, id: u64, i: u64) {
-    text(b"every");
-    number(n as u64);
-    number(id);
-    number(i);
-    text(b"\n");
+pub fn every<W: Write>(out: &mut W, n: usize, id: u64, i: u64) -> io::Result<()> {
+    text(out, b"every")?;
+    number(out, n as u64)?;
+    number(out, id)?;
+    number(out, i)?;
+    text(out, b"\n")
 }
 
-pub fn answer(a: Answer) {
-    text(b" |");
-    number(a.code);
-    number(a.slot);
-    number(a.launched);
-    number(a.terminated);
-    number(a.port);
-    number(a.stored);
-    number(a.submit);
-    number(a.cancel);
-    text(b" |");
+pub fn answer<W: Write>(out: &mut W, a: Answer) -> io::Result<()> {
+    text(out, b" |")?;
+    number(out, a.code)?;
+    number(out, a.slot)?;
+    number(out, a.launched)?;
+    number(out, a.terminated)?;
+    number(out, a.port)?;
+    number(out, a.stored)?;
+    number(out, a.submit)?;
+    number(out, a.cancel)?;
+    text(out, b" |")
 }
 
 // The checksums after a call, and whether they are those before it.
-pub fn compare(table: u64, memory: u64, table_after: u64, memory_after: u64) {
-    number(table_after);
-    number(memory_after);
+pub fn compare<W: Write>(
+    out: &mut W,
+    table: u64,
+    memory: u64,
+    table_after: u64,
+    memory_after: u64,
+) -> io::Result<()> {
+    number(out, table_after)?;
+    number(out, memory_after)?;
     if table == table_after {
         if memory == memory_after {
-            text(b" same\n");
-            return;
+            text(out, b" same\n")?;
+            return Ok(());
         }
     }
-    text(b" changed\n");
+    text(out, b" changed\n")
 }
