@@ -1,6 +1,5 @@
 -- `bench::bench_enable` meets its contract. Assumes nothing.
 use Prim.Native.Nat.{◌≤◌, ◌-◌}
-use borrow.Author.Rules.{rules}
 use Rattle.bench.proofs.bench_enable.Given as goal
 
 abbrev pub invariant-loop-turn : goal.invariant-loop-turn

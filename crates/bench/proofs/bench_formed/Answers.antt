@@ -1,10 +1,9 @@
 -- `bench::bench_formed` meets its contract. Assumes nothing.
-use borrow.Author.Rules.{rules}
 use Rattle.scan.proofs.OpeningLaws.{is_lent}
 use Rattle.bench.proofs.bench_formed.Goals as goal
 
 pub turns-requires : goal.turns-requires
-turns-requires c = let b = c in let l = is_lent _ _ b.checks.ensures b.if-checks-ne0.false in record { formed = l.formed; size = l.size }
+turns-requires c = let l = is_lent _ _ c.checks.ensures c.if-checks-ne0.false in record { formed = l.formed; size = l.size }
 
 pub endpoint_turns-requires : goal.endpoint_turns-requires
-endpoint_turns-requires c = let b = c in let l = is_lent _ _ b.checks.ensures b.if-checks-ne0.false in record { formed = l.formed; size = l.size }
+endpoint_turns-requires c = let l = is_lent _ _ c.checks.ensures c.if-checks-ne0.false in record { formed = l.formed; size = l.size }

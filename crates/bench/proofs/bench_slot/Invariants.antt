@@ -2,7 +2,6 @@
 use Prim.Native.Nat.{◌≤◌, ◌-◌}
 use mathlib.Core.Path.{◌≡◌}
 use lib.ListN.{length}
-use borrow.Author.Rules.{rules}
 use Rattle.bench.proofs.bench_slot.Given as goal
 
 abbrev pub invariant-loop-turn : goal.invariant-loop-turn

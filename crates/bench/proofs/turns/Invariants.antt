@@ -1,6 +1,5 @@
 -- `bench::turns` meets its contract. Assumes nothing.
 use Prim.Native.Nat.{◌≤◌, ◌-◌}
-use borrow.Author.Rules.{rules}
 use Rattle.bench.proofs.turns.Given as goal
 
 abbrev pub invariant-loop-turn : goal.invariant-loop-turn
