@@ -8,7 +8,8 @@ is any number that the kind takes.  A bad record ends a run, so every run of som
 with one: each kind of bad record in turn.  Before these come short runs, one for each bad record
 and for ends after some number of records.  Answers, final tables and all of memory must be equal.
 It prints what it compared; at the first difference it prints the smallest session found that
-shows it and exits with 1.  --port names the program, target/bin/differential if not given.
+shows it and exits with 1.  --port names the program,
+crates/differential/out/differential (of rt run in that folder) if not given.
 """
 
 import argparse
@@ -22,7 +23,7 @@ from reading import WRAP
 from replay_reading import BYTE, GUEST_STORE, LONG, MEMORY, NEW_SESSION, USES, Record
 from sessions import IN_USE, START, WEIGHTS, WITH_ENDPOINTS, Guest
 
-PORT = Path(__file__).resolve().parent.parent / "target/bin/differential"
+PORT = Path(__file__).resolve().parent.parent / "crates/differential/out/differential"
 RUN = 20
 
 
