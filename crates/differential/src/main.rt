@@ -1,10 +1,13 @@
 // Recorded sessions, replayed: what the oracle prints for them (oracle/README.md), from standard input.
 // A record of 32 zero bytes begins a new session: a fresh table and 65,536 zero bytes. Sessions end with the table and the memory.
-ghost use Rattle.std.specs.Prelude.{◌+◌, ◌≤◌, length};
+#![tactic(auto)]
+
+ghost use Rattle.std.specs.Prelude.{◌+◌, ◌≤◌, length, IfOk};
 ghost use Rattle.io.specs.Counts.{IsPrefixLen};
 
 use definition::Table;
-use libc::STDIN_FILENO;
+use std::io;
+use std::io::{Read, Write};
 
 // What some records leave: the table, and whether the run ended.
 #[derive(Clone, Copy)]
@@ -43,45 +46,47 @@ fn next_session(records: &[u8], from: usize) -> usize
 }
 
 // At most 2,048 records of one session, and their answers as lines. Each may be a call, with eight numbers for an answer.
-fn play(t: Table, mem: &mut [u8; 65536], records: &[u8]) -> Fed {
+fn play<W: Write>(out: &mut W, t: Table, mem: &mut [u8; 65536], records: &[u8]) -> io::Result<Fed> {
     let mut answers = [0u64; 16384];
     let mut text = [0u8; 65536];
     let ran = session::run(t, mem, records, &mut answers);
-    player::show(&mut text, &answers, ran.answered);
-    let ended = lines::ends(ran.code, ran.bad);
+    player::show(out, &mut text, &answers, ran.answered)?;
+    let ended = lines::ends(out, ran.code, ran.bad)?;
     let u = ran.table;
-    Fed { table: u, ended }
+    Ok(Fed { table: u, ended })
 }
 
 // Some records, the first of which go on with the session.
-fn feed(t: Table, mem: &mut [u8; 65536], records: &[u8]) -> Fed {
+fn feed<W: Write>(out: &mut W, t: Table, mem: &mut [u8; 65536], records: &[u8]) -> io::Result<Fed> {
     let mut u = t;
     let mut at: usize = 0;
     loop {
         let end = next_session(records, at);
-        let fed = play(u, mem, &records[at..end]);
+        let fed = play(out, u, mem, &records[at..end])?;
         if fed.ended {
-            return fed;
+            return Ok(fed);
         }
         if records.len() - end < 32 {
-            return fed;
+            return Ok(fed);
         }
         at = end + 32;
         u = fed.table;
-        lines::end(u, mem);
+        lines::end(out, u, mem)?;
         clear(mem);
         u = fresh();
     }
 }
 
 // The next bytes of the input; fewer than there is room for where it ends.
-fn read(records: &mut [u8; 65536]) -> usize
-    ensures { IsPrefixLen result records.new }
+fn read<R: Read>(input: &mut R, records: &mut [u8; 65536]) -> io::Result<usize>
+    ensures { IfOk result (λ n. IsPrefixLen n records.new) }
 {
-    io::read_full(STDIN_FILENO, records)
+    player::read_full(input, records)
 }
 
-fn main() {
+fn main(rt: HostRuntime) -> io::Result<()> {
+    let mut input = rt.stdin();
+    let mut out = io::writer(&rt);
     // The input is read in parts of 2,048 records.
     let mut records = [0u8; 65536];
     let mut mem = [0u8; 65536];
@@ -89,16 +94,16 @@ fn main() {
     // A proved loop has to end: no run uses these turns up.
     let mut turns = u64::MAX;
     while turns > 0 {
-        let got = read(&mut records);
-        let fed = feed(t, &mut mem, &records[..got]);
+        let got = read(&mut input, &mut records)?;
+        let fed = feed(&mut out, t, &mut mem, &records[..got])?;
         t = fed.table;
         if fed.ended {
-            return;
+            return Ok(());
         }
         if got < 65536 {
-            lines::end(t, &mem);
-            return;
+            return lines::end(&mut out, t, &mem);
         }
         turns -= 1;
     }
+    Ok(())
 }

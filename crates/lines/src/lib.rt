@@ -1,14 +1,17 @@
 // The lines of a session beside its answers: why a run ended, and at a session's end the table and the memory. Each is written by itself.
+#![tactic(auto)]
+
 ghost use Rattle.std.specs.Prelude.{◌≤◌, ◌<◌, ◌+◌, length};
 
 use definition::{Endpoint, EndpointState, Slot, SlotState, Table};
-use libc::STDOUT_FILENO;
+use std::io;
+use std::io::Write;
 
 // `NAME NUMBER..`, with at most five numbers.
-fn line(name: &[u8], numbers: &[u64])
+fn line<W: Write>(out: &mut W, name: &[u8], numbers: &[u64]) -> io::Result<()>
     requires { length numbers.now ≤ 5 }
 {
-    io::write_all(STDOUT_FILENO, name);
+    out.write_all(name)?;
     let mut text = [0u8; 128];
     let mut end: usize = 0;
     let mut i: usize = 0;
@@ -19,19 +22,19 @@ fn line(name: &[u8], numbers: &[u64])
         i += 1;
     }
     text[end] = b'\n';
-    io::write_all(STDOUT_FILENO, &text[..end + 1]);
+    out.write_all(&text[..end + 1])
 }
 
 // A table, or room for the answers, that the replay refuses ends the run, and so does a bad record. It answers whether the run ends.
-pub fn ends(code: u64, bad: bool) -> bool {
+pub fn ends<W: Write>(out: &mut W, code: u64, bad: bool) -> io::Result<bool> {
     if code != 0 {
-        line(b"refused", &[code]);
-        return true;
+        line(out, b"refused", &[code])?;
+        return Ok(true);
     }
     if bad {
-        io::write_all(STDOUT_FILENO, b"bad record\n");
+        out.write_all(b"bad record\n")?;
     }
-    bad
+    Ok(bad)
 }
 
 // ---- the table
@@ -59,12 +62,13 @@ fn endpoint_number(state: EndpointState) -> u64 {
 }
 
 // `slot ID STATE BASE ENTRY`, where the slot is in use.
-fn slot(id: usize, s: Slot) {
+fn slot<W: Write>(out: &mut W, id: usize, s: Slot) -> io::Result<()> {
     let state = s.state;
     let number = slot_number(state);
     if number != 0 {
-        line(b"slot", &[id as u64, number, s.base, s.entry]);
+        line(out, b"slot", &[id as u64, number, s.base, s.entry])?;
     }
+    Ok(())
 }
 
 fn bit(b: bool) -> u64 {
@@ -72,7 +76,7 @@ fn bit(b: bool) -> u64 {
 }
 
 // `endpoint SLOT ID STATE CYCLE POINTER`, where record k of the table is enabled.
-fn endpoint(k: usize, e: Endpoint)
+fn endpoint<W: Write>(out: &mut W, k: usize, e: Endpoint) -> io::Result<()>
     requires { k < 496 }
 {
     let state = e.state;
@@ -80,6 +84,7 @@ fn endpoint(k: usize, e: Endpoint)
     if number != 0 {
         let cycle = bit(e.cycle);
         line(
+            out,
             b"endpoint",
             &[
                 (k / 31 + 1) as u64,
@@ -88,26 +93,29 @@ fn endpoint(k: usize, e: Endpoint)
                 cycle,
                 e.pointer,
             ],
-        );
+        )?;
     }
+    Ok(())
 }
 
-fn slots(t: Table) {
+fn slots<W: Write>(out: &mut W, t: Table) -> io::Result<()> {
     let mut i: usize = 0;
     while i < 16 {
         let s = t.slots[i];
-        slot(i + 1, s);
+        slot(out, i + 1, s)?;
         i += 1;
     }
+    Ok(())
 }
 
-fn endpoints(t: Table) {
+fn endpoints<W: Write>(out: &mut W, t: Table) -> io::Result<()> {
     let mut k: usize = 0;
     while k < 496 {
         let e = t.endpoints[k];
-        endpoint(k, e);
+        endpoint(out, k, e)?;
         k += 1;
     }
+    Ok(())
 }
 
 // ---- the memory
@@ -138,7 +146,7 @@ fn digit(d: u8) -> u8 {
 }
 
 // `memory ADDRESS HEX`, of the 32 bytes at an address.
-fn row(mem: &[u8; 65536], address: usize)
+fn row<W: Write>(out: &mut W, mem: &[u8; 65536], address: usize) -> io::Result<()>
     requires { address + 32 ≤ 65536 }
 {
     let mut text =
@@ -155,23 +163,24 @@ fn row(mem: &[u8; 65536], address: usize)
         i += 1;
     }
     text[at] = b'\n';
-    io::write_all(STDOUT_FILENO, &text[..at + 1]);
+    out.write_all(&text[..at + 1])
 }
 
 // The rows that are not all zero.
-fn memory(mem: &[u8; 65536]) {
+fn memory<W: Write>(out: &mut W, mem: &[u8; 65536]) -> io::Result<()> {
     let mut line: usize = 0;
     while line < 2048 {
         if !zero(mem, 32 * line) {
-            row(mem, 32 * line);
+            row(out, mem, 32 * line)?;
         }
         line += 1;
     }
+    Ok(())
 }
 
 // The slots in use, the enabled endpoints, the rows of memory that are not all zero.
-pub fn end(t: Table, mem: &[u8; 65536]) {
-    slots(t);
-    endpoints(t);
-    memory(mem);
+pub fn end<W: Write>(out: &mut W, t: Table, mem: &[u8; 65536]) -> io::Result<()> {
+    slots(out, t)?;
+    endpoints(out, t)?;
+    memory(out, mem)
 }

@@ -1,11 +1,14 @@
-// A trace, read from a file and replayed from a fresh table and 65,536 zero bytes. Each call's answer is a line on standard output.
+// A trace, read from an input and replayed from a fresh table and 65,536 zero bytes. Each call's answer is a line of the output.
 // The records are read in parts of 65,536 bytes, and the lines of a part are written together.
-ghost use Rattle.std.specs.Prelude.{◌+◌, ◌*◌, ◌≤◌, length};
+#![tactic(auto)]
+
+ghost use Rattle.std.specs.Prelude.{◌+◌, ◌*◌, ◌≤◌, length, IfOk};
 ghost use Rattle.formed.specs.Promises.{Ready};
+ghost use Rattle.io.specs.Counts.{IsPrefixLen};
 ghost use Rattle.player.specs.Lines.{PutsNumber, PutsLine};
 
 use definition::Table;
-use libc::STDOUT_FILENO;
+use std::io::{Read, Write};
 
 // What the next part is replayed from, and whether there is one.
 #[derive(Clone, Copy)]
@@ -48,65 +51,86 @@ fn put_line(part: &mut [u8], numbers: &[u64]) -> usize
 }
 
 // The `end` bytes of text are written where a line more may not fit behind them. It answers where the next line begins.
-fn flush(text: &[u8], end: usize) -> usize
+fn flush<W: Write>(out: &mut W, text: &[u8], end: usize) -> std::io::Result<usize>
     requires { (168 ≤ length text.now) × (end ≤ length text.now) }
-    ensures { result + 168 ≤ length text.now }
+    ensures { IfOk result (λ start. start + 168 ≤ length text.now) }
 {
     if text.len() - end < 168 {
-        io::write_all(STDOUT_FILENO, &text[..end]);
-        return 0;
+        out.write_all(&text[..end])?;
+        return Ok(0);
     }
-    end
+    Ok(end)
 }
 
 // The lines of the first `count` answers are written, by way of `text`.
-pub fn show(text: &mut [u8], answers: &[u64], count: usize)
+pub fn show<W: Write>(
+    out: &mut W,
+    text: &mut [u8],
+    answers: &[u64],
+    count: usize,
+) -> std::io::Result<()>
     requires in_bounds { 168 ≤ length text.old }
     requires count_in_bounds { 8 * count ≤ length answers.now }
 {
     let mut end: usize = 0;
     let mut n: usize = 0;
     while n < count {
-        let start = flush(text, end);
+        let start = flush(out, text, end)?;
         let at = 8 * n;
         end = start + put_line(&mut text[start..], &answers[at..]);
         n += 1;
     }
-    io::write_all(STDOUT_FILENO, &text[..end]);
+    out.write_all(&text[..end])
+}
+
+// The input is read until `buf` is full or the input ends. It answers how many bytes stand at the start of `buf`.
+pub fn read_full<R: Read>(input: &mut R, buf: &mut [u8]) -> std::io::Result<usize>
+    ensures { IfOk result (λ n. IsPrefixLen n buf.new) }
+{
+    let mut done: usize = 0;
+    while done < buf.len() {
+        let n = input.read(&mut buf[done..])?;
+        if n == 0 {
+            break;
+        }
+        done += n;
+    }
+    Ok(done)
 }
 
 // One part of the trace is read and replayed, and its lines are written. The table stays such that the next part is not refused.
-fn part(
-    file: i32,
+fn part<R: Read, W: Write>(
+    input: &mut R,
+    out: &mut W,
     t: Table,
     mem: &mut [u8],
     records: &mut [u8],
     answers: &mut [u64],
     text: &mut [u8],
-) -> Played
+) -> std::io::Result<Played>
     requires ready { Ready t mem.old }
     requires records_len_bound { (length records.old ≤ 65536) × (16384 ≤ length answers.old) × (168 ≤ length text.old) }
-    ensures { Ready result.table mem.new }
+    ensures { IfOk result (λ p. Ready p.table mem.new) }
 {
-    let count = io::read_full(file, records);
+    let count = read_full(input, records)?;
     let r = session::run(t, mem, &records[..count], answers);
-    show(text, answers, r.answered);
+    show(out, text, answers, r.answered)?;
     let u = r.table;
     if r.bad {
-        io::write_all(STDOUT_FILENO, b"bad record\n");
-        return Played {
+        out.write_all(b"bad record\n")?;
+        return Ok(Played {
             table: u,
             more: false,
-        };
+        });
     }
-    Played {
+    Ok(Played {
         table: u,
         more: count == records.len(),
-    }
+    })
 }
 
-// The whole trace. A proved loop has to end, and nothing says that a file does: so the loop counts its turns down, from a number that no run uses up.
-pub fn replay(file: i32) {
+// The whole trace. A proved loop has to end, and nothing says that an input does: so the loop counts its turns down, from a number that no run uses up.
+pub fn replay<R: Read, W: Write>(input: &mut R, out: &mut W) -> std::io::Result<()> {
     let made = slot_manager::make_table(65536);
     let mut t = made.table;
     let mut mem = [0u8; 65536];
@@ -115,11 +139,20 @@ pub fn replay(file: i32) {
     let mut text = [0u8; 65536];
     let mut turns = u64::MAX;
     while turns > 0 {
-        let p = part(file, t, &mut mem, &mut records, &mut answers, &mut text);
+        let p = part(
+            input,
+            out,
+            t,
+            &mut mem,
+            &mut records,
+            &mut answers,
+            &mut text,
+        )?;
         t = p.table;
         if !p.more {
-            return;
+            return Ok(());
         }
         turns -= 1;
     }
+    Ok(())
 }

@@ -1,6 +1,8 @@
 // Replays a recorded session: records of 32 bytes on standard input, and a line on standard output for each call. docs/TRACE.md has the records' layout.
-use libc::STDIN_FILENO;
+#![tactic(auto)]
 
-fn main() {
-    player::replay(STDIN_FILENO);
+use std::io;
+
+fn main(rt: HostRuntime) -> io::Result<()> {
+    player::replay(&mut rt.stdin(), &mut io::writer(&rt))
 }
