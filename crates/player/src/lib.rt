@@ -34,8 +34,8 @@ pub fn put_number(part: &mut [u8], n: u64) -> usize
 
 // The first eight numbers go to the start of `part`, as a line. It answers how many bytes the line has.
 fn put_line(part: &mut [u8], numbers: &[u64]) -> usize
-    requires in_bounds { 168 ≤ length part.old }
-    requires in_bounds_2 { 8 ≤ length numbers.now }
+    requires room { 168 ≤ length part.old }
+    requires eight { 8 ≤ length numbers.now }
     ensures { PutsLine numbers.now part.old result part.new }
 {
     let mut end = put_number(part, numbers[0]);
@@ -69,8 +69,8 @@ pub fn show<W: Write>(
     answers: &[u64],
     count: usize,
 ) -> std::io::Result<()>
-    requires in_bounds { 168 ≤ length text.old }
-    requires count_in_bounds { 8 * count ≤ length answers.now }
+    requires room { 168 ≤ length text.old }
+    requires answered { 8 * count ≤ length answers.now }
 {
     let mut end: usize = 0;
     let mut n: usize = 0;
@@ -109,7 +109,7 @@ fn part<R: Read, W: Write>(
     text: &mut [u8],
 ) -> std::io::Result<Played>
     requires ready { Ready t mem.old }
-    requires records_len_bound { (length records.old ≤ 65536) × (16384 ≤ length answers.old) × (168 ≤ length text.old) }
+    requires rooms { (length records.old ≤ 65536) × (16384 ≤ length answers.old) × (168 ≤ length text.old) }
     ensures { IfOk result (λ p. Ready p.table mem.new) }
 {
     let count = read_full(input, records)?;

@@ -2,5 +2,5 @@
 use Rattle.session.proofs.CountLaws.{answers_fit}
 use Rattle.differential.proofs.play.Goals as goal
 
-pub show-requires-clause-count_in_bounds : goal.show-requires-clause-count_in_bounds
-show-requires-clause-count_in_bounds g c = answers_fit c.run-ran.ensures
+pub show-requires-clause-answered : goal.show-requires-clause-answered
+show-requires-clause-answered g c = answers_fit c.run-ran.ensures

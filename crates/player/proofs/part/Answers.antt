@@ -19,13 +19,13 @@ stays : {t : Table} {m bs ns : List ℕ} {r : Ran} {m' ns' : List ℕ} → Runs 
     → Ready r.table m'
 stays x z w h k = plays_ready (ready_plays w (omega arith) x) (record { sized = z; formed = w.formed }) w.size
 
-pub show-requires-clause-count_in_bounds : goal.show-requires-clause-count_in_bounds
-show-requires-clause-count_in_bounds g c = answers_fit c.run-r.ensures
+pub show-requires-clause-answered : goal.show-requires-clause-answered
+show-requires-clause-answered g c = answers_fit c.run-r.ensures
 
 pub returns-then-r : goal.returns-then-r
 returns-then-r g c =
-    stays c.run-r.ensures (table_sized _ _ c.well_formed.1.1.0) c.requires.ready (omega (arith, length-take c.in_ok-count.count c.read_full.new.buf, c.read_full.auto.buf, c.requires.records_len_bound.0)) c.requires.records_len_bound.1
+    stays c.run-r.ensures (table_sized _ _ c.well_formed.1.1.0) c.requires.ready (omega (arith, length-take c.in_ok-count.count c.read_full.new.buf, c.read_full.auto.buf, c.requires.rooms.0)) c.requires.rooms.1
 
 pub returns : goal.returns
 returns g c =
-    stays c.run-r.ensures (table_sized _ _ c.well_formed.1.1.0) c.requires.ready (omega (arith, length-take c.in_ok-count.count c.read_full.new.buf, c.read_full.auto.buf, c.requires.records_len_bound.0)) c.requires.records_len_bound.1
+    stays c.run-r.ensures (table_sized _ _ c.well_formed.1.1.0) c.requires.ready (omega (arith, length-take c.in_ok-count.count c.read_full.new.buf, c.read_full.auto.buf, c.requires.rooms.0)) c.requires.rooms.1
