@@ -99,7 +99,8 @@ pub fn reset_device(t: Table, mem: &mut [u8], id: u64, slot: Slot) -> Outcome
     ensures { Answers (calls.reset_device id) t mem.old result mem.new }
 {
     let state = slot.state;
-    if !is_settled(state) {
+    let settled = is_settled(state);
+    if !settled {
         return scan::refused(t, 19);
     }
     deconfigure(t, mem, id, slot, SlotState::Default)
