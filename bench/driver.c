@@ -1,5 +1,5 @@
 // driver [ROUNDS [TURNS [ROW]]]: what a call of the slot manager costs. For each row a line: the least and the median of the rounds, in ns per call, and the row's name.
-// A round calls one exported loop of crates/bench for TURNS turns over a memory made afresh, and times it from outside. Each row's codes are checked.
+// A round calls one loop of crates/bench, exported by crates/bench_c, for TURNS turns over a memory made afresh, and times it from outside. Each row's codes are checked.
 #include <stdint.h>
 #include <stdio.h>
 #include <stdlib.h>

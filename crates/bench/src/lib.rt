@@ -1,4 +1,4 @@
-// Loops for a driver in another language: each makes a start table (`stages`), calls the slot manager n times, and gives the sum of the answers' codes.
+// Loops over the calls, for a driver in another language (`bench_c` exports them): each makes a start table (`stages`), calls the slot manager n times, and gives the sum of the answers' codes.
 // Every turn begins from the same start. `zero` is 0, which the compiler cannot know: no turn can begin before the one in front of it has answered.
 #![tactic(auto)]
 
@@ -34,8 +34,7 @@ const NOTHING_FOUND: Look = Look {
     cycle: true,
 };
 
-#[unsafe(no_mangle)]
-pub extern "C" fn bench_enable(mem: &mut [u8], n: u64, stage: u64, zero: u64) -> u64 {
+pub fn bench_enable(mem: &mut [u8], n: u64, stage: u64, zero: u64) -> u64 {
     let mut start = stages::life(mem, stage);
     let mut kept = start;
     let mut turn: u64 = 0;
@@ -51,15 +50,7 @@ pub extern "C" fn bench_enable(mem: &mut [u8], n: u64, stage: u64, zero: u64) ->
 }
 
 // Disable Slot or Reset Device.
-#[unsafe(no_mangle)]
-pub extern "C" fn bench_slot(
-    mem: &mut [u8],
-    n: u64,
-    stage: u64,
-    call: u64,
-    id: u64,
-    zero: u64,
-) -> u64 {
+pub fn bench_slot(mem: &mut [u8], n: u64, stage: u64, call: u64, id: u64, zero: u64) -> u64 {
     let start = stages::life(mem, stage);
     let mut kept = start;
     let mut turn: u64 = 0;
@@ -81,8 +72,7 @@ pub extern "C" fn bench_slot(
 }
 
 // Address Device, Configure Endpoint or Evaluate Context. The flag is BSR or DC.
-#[unsafe(no_mangle)]
-pub extern "C" fn bench_context(
+pub fn bench_context(
     mem: &mut [u8],
     n: u64,
     stage: u64,
@@ -118,8 +108,7 @@ pub extern "C" fn bench_context(
 }
 
 // Stop Endpoint, Set Dequeue or a doorbell.
-#[unsafe(no_mangle)]
-pub extern "C" fn bench_endpoint(
+pub fn bench_endpoint(
     mem: &mut [u8],
     n: u64,
     stage: u64,
@@ -154,15 +143,7 @@ pub extern "C" fn bench_endpoint(
     stages::summed(kept, a)
 }
 
-#[unsafe(no_mangle)]
-pub extern "C" fn bench_doorbell_stop(
-    mem: &mut [u8],
-    n: u64,
-    stage: u64,
-    id: u64,
-    i: u64,
-    zero: u64,
-) -> u64 {
+pub fn bench_doorbell_stop(mem: &mut [u8], n: u64, stage: u64, id: u64, i: u64, zero: u64) -> u64 {
     let start = stages::life(mem, stage);
     let mut kept = start;
     let mut turn: u64 = 0;
@@ -236,8 +217,7 @@ fn endpoint_turns(
 }
 
 // Enable Slot, Evaluate Context with x as the pointer, Stop Endpoint or a doorbell to endpoint i of slot x.
-#[unsafe(no_mangle)]
-pub extern "C" fn bench_formed(
+pub fn bench_formed(
     mem: &mut [u8],
     n: u64,
     stage: u64,
