@@ -10,8 +10,10 @@ use lib.ListN.{length}
 use lib.Seq.{set-set}
 use Rattle.guest.specs.Bytes.{number, ◌⊕◌, located, slot_state_byte}
 use Rattle.guest.specs.Prog.{Mem, Prog, done, block, splice, run, Ends, Result, ok, refuse, need}
-use Rattle.guest.specs.declared.Located.{Located}
-use Rattle.guest.specs.declared.Located.TheVariants.{At, Outside}
+use Rattle.std.specs.Prelude as std
+use Rattle.std.specs.Prelude.{Option, Some, None, Ok, Err}
+use Rattle.definition.specs.declared.Refusal.{Refusal}
+use Rattle.definition.specs.Refusals.{code_of}
 use Rattle.guest.proofs.RunLaws.{run_get, after, ends_value, inside_yes, inside_no, need_yes, need_no, located_at, located_outside}
 use Rattle.guest.proofs.SpliceLaws.{block_length}
 use Rattle.definition.specs.Table.{is_disabled, endpoint_of, with_endpoint, with_slot}
@@ -25,8 +27,6 @@ use Rattle.definition.proofs.FormedFacts.{InUse}
 use Rattle.endpoint.specs.Promises.{Terminates}
 use Rattle.endpoint.specs.declared.Terminated.{Terminated}
 use Rattle.contexts.specs.Checks.{Checks}
-use Rattle.contexts.specs.declared.Checked.{Checked}
-use Rattle.contexts.specs.declared.Checked.TheVariants as checks
 use Rattle.contexts.proofs.CheckLaws.{check_goes_on, check_refuses}
 use Rattle.scan.specs.Records.{first_of}
 use Rattle.scan.specs.Heads.{refusal}
@@ -39,7 +39,6 @@ use Rattle.walks.proofs.WalkLaws.{terminate_one}
 use Rattle.commands.proofs.OutcomeLaws.{carried, settles_as, opened_slot, opened_fits}
 use Rattle.addressing.specs.Types.{Endpoint, SlotState, Free, Enabled, Default, Addressed, Configured, Slot, Table, Outcome}
 use Rattle.addressing.specs.declared.Device.{Device}
-use Rattle.addressing.specs.declared.Addressing.{Addressing}
 use Rattle.commands.specs.Promises.{Carries, Answers, Settles}
 use Rattle.addressing.specs.Promises.{with_first, addressed, Copies, addressing, outcome_of, Addresses}
 
@@ -69,14 +68,14 @@ copied t id c slot x s {m = m} {r = r} h a b d e l =
 
 -- ---- a range that the code has sought
 
-module _ (len a n : ℕ) {place : Located} (found : place ≡ located len a n) where
-  missing : (p : Prog (Result Told)) → place ≡ Outside → need len a n p ≡ done (refuse 193)
+module _ (len a n : ℕ) {place : Option ℕ} (found : place ≡ located len a n) where
+  missing : (p : Prog (Result Told)) → place ≡ None → need len a n p ≡ done (refuse 193)
   missing p o = need_no len a n p (inside_no len a n (located_outside len a n (sym found ∙ o)))
 
-  pub lies : {i : ℕ} → place ≡ At i → a + n ≤ len
+  pub lies : {i : ℕ} → place ≡ Some i → a + n ≤ len
   lies h = inside_yes len a n (located_at len a n (sym found ∙ h)).1
 
-  there : {i : ℕ} (p : Prog (Result Told)) → place ≡ At i → need len a n p ≡ p
+  there : {i : ℕ} (p : Prog (Result Told)) → place ≡ Some i → need len a n p ≡ p
   there p h = need_yes len a n p (lies h)
 
 -- ---- a slot that is Enabled
@@ -88,12 +87,12 @@ module _ (P : ℕ) (t : Table) (id : ℕ) (slot : Slot) (next : SlotState) (m : 
   abbrev Copy : ℕ → Prog (Result Told)
   Copy base = copy_contexts id (P ⊕ 32) base next slot.entry (begin t)
 
-  module _ {entry : Located} (e : entry ≡ located (length m) slot.entry 8) where
-    pub fresh_no_entry : entry ≡ Outside → Settles Fresh t m (refusal t 193) m
+  module _ {entry : Option ℕ} (e : entry ≡ located (length m) slot.entry 8) where
+    pub fresh_no_entry : entry ≡ None → Settles Fresh t m (refusal t 193) m
     unfolding carry_out
     fresh_no_entry o = refuses_at_once t m (missing _ _ _ e _ o)
 
-    module _ {at base address : ℕ} {input : Located} (h : entry ≡ At at) (b : base ≡ number (block m at 8)) (a : address ≡ P ⊕ 32) (f : input ≡ located (length m) address 64) where
+    module _ {at base address : ℕ} {input : Option ℕ} (h : entry ≡ Some at) (b : base ≡ number (block m at 8)) (a : address ≡ P ⊕ 32) (f : input ≡ located (length m) address 64) where
       abbrev Sought : Prog (Result Told)
       Sought = need (length m) (P ⊕ 32) 64 (need (length m) base 64 (Copy base))
 
@@ -101,26 +100,26 @@ module _ (P : ℕ) (t : Table) (id : ℕ) (slot : Slot) (next : SlotState) (m : 
       unfolding carry_out
       fresh_base = rw (there _ _ _ e _ h, run_get, b, (located_at (length m) slot.entry 8 (sym e ∙ h)).0)
 
-      pub fresh_no_input : input ≡ Outside → Settles Fresh t m (refusal t 193) m
+      pub fresh_no_input : input ≡ None → Settles Fresh t m (refusal t 193) m
       fresh_no_input o = settles_as t Fresh Sought fresh_base (refuses_at_once t m (missing _ _ _ (f ∙ rw a) _ o))
 
-      module _ {from : ℕ} {device : Located} (i : input ≡ At from) (g : device ≡ located (length m) base 64) where
-        pub fresh_no_device : device ≡ Outside → Settles Fresh t m (refusal t 193) m
+      module _ {from : ℕ} {device : Option ℕ} (i : input ≡ Some from) (g : device ≡ located (length m) base 64) where
+        pub fresh_no_device : device ≡ None → Settles Fresh t m (refusal t 193) m
         fresh_no_device o = settles_as t Fresh Sought fresh_base (refuses_at_once t m (there _ _ _ (f ∙ rw a) _ i ∙ missing _ _ _ g _ o))
 
-        pub fresh_goes : {d : ℕ} {r : Outcome} {m' : Mem} → device ≡ At d → Carries (copy_contexts id from base next slot.entry (walk t 0 0 0)) m 0 r m' → Settles Fresh t m r m'
+        pub fresh_goes : {d : ℕ} {r : Outcome} {m' : Mem} → device ≡ Some d → Carries (copy_contexts id from base next slot.entry (walk t 0 0 0)) m 0 r m' → Settles Fresh t m r m'
         fresh_goes d w =
             settles_as t Fresh Sought fresh_base
             (meets_as t (there _ _ _ (f ∙ rw a) _ i ∙ there _ _ _ g _ d) (carried t (rw ((located_at (length m) address 64 (sym f ∙ i)).0, a) at w)))
 
 -- ---- a slot that is Default
 
-module _ (P : ℕ) (t : Table) (id : ℕ) (slot : Slot) (next : SlotState) (m : Mem) {address : ℕ} {input : Located} (a : address ≡ P ⊕ 32) (f : input ≡ located (length m) address 64) where
-  pub again_no_input : input ≡ Outside → Settles (carry_out (length m) P t id slot (again next)) t m (refusal t 193) m
+module _ (P : ℕ) (t : Table) (id : ℕ) (slot : Slot) (next : SlotState) (m : Mem) {address : ℕ} {input : Option ℕ} (a : address ≡ P ⊕ 32) (f : input ≡ located (length m) address 64) where
+  pub again_no_input : input ≡ None → Settles (carry_out (length m) P t id slot (again next)) t m (refusal t 193) m
   unfolding carry_out
   again_no_input o = refuses_at_once t m (missing _ _ _ (f ∙ rw a) _ o)
 
-  pub again_goes : {from : ℕ} {e : Endpoint} {gone : Terminated} {m₁ : Mem} (d : Device) {m' : Mem} → input ≡ At from → slot.base + 64 ≤ length m
+  pub again_goes : {from : ℕ} {e : Endpoint} {gone : Terminated} {m₁ : Mem} (d : Device) {m' : Mem} → input ≡ Some from → slot.base + 64 ≤ length m
       → is_disabled e ≡ false → Terminates e (slot.base ⊕ 32 * 1) m gone m₁
       → Copies from (record { state = next; base = slot.base; entry = slot.entry }) 2 m₁ gone.stored d m' → first_of t id ≡ e
       → Settles (carry_out (length m) P t id slot (again next)) t m (addressed t id d) m'
@@ -160,25 +159,25 @@ default_fits {t} {m} {id} {s} o q d =
     let u : InUse t.length s.base id t = rw d at (opened_fits o) in
     (omega (arith, u.room, k.size), rw q (rw first_is at u.first))
 
-module _ (s : Slot) (P : ℕ) (bsr : Bool) (m : Mem) {checked : Checked} (w : Checks P m checked) (id : ℕ) (t : Table) where
+module _ (s : Slot) (P : ℕ) (bsr : Bool) (m : Mem) {checked : std.Result ℕ Refusal} (w : Checks P m checked) (id : ℕ) (t : Table) where
   abbrev Whole : Prog (Result Told)
   Whole = addressing s P bsr (length m) t id
 
   -- the context check refuses; it passes, and the plan is carried out; the plan is never
-  pub attempt_unchecked : {c : ℕ} → checked ≡ checks.Refused c → Settles Whole t m (refusal t c) m
+  pub attempt_unchecked : {c : Refusal} → checked ≡ Err c → Settles Whole t m (refusal t (code_of c)) m
   attempt_unchecked e = refuses_with t (check_refuses P m _ w e)
 
-  pub attempt_goes : {adds : ℕ} {p : Plan} {r : Outcome} {m' : Mem} → checked ≡ checks.Adds adds → plan s.state bsr ≡ p
+  pub attempt_goes : {adds : ℕ} {p : Plan} {r : Outcome} {m' : Mem} → checked ≡ Ok adds → plan s.state bsr ≡ p
       → Settles (carry_out (length m) P t id s p) t m r m' → Settles Whole t m r m'
   attempt_goes e q h = settles_as t _ _ (check_goes_on P m _ w e) (rw q h)
 
-  pub attempt_never : {adds : ℕ} → checked ≡ checks.Adds adds → plan s.state bsr ≡ never → Settles Whole t m (refusal t 19) m
+  pub attempt_never : {adds : ℕ} → checked ≡ Ok adds → plan s.state bsr ≡ never → Settles Whole t m (refusal t 19) m
   unfolding carry_out
   attempt_never e q = attempt_goes e q (refuses_at_once t m refl)
 
 -- on a slot that was found
 pub device_answers : {t : Table} {m : Mem} {id : ℕ} {s : Slot} → Opened t m id s → {first : Endpoint} → first ≡ first_of t id
-    → (P : ℕ) (bsr : Bool) (k : Addressing) {k' : Addressing} {m' : Mem} → Addresses first (addressing s P bsr) m k m' → k ≡ k'
+    → (P : ℕ) (bsr : Bool) (k : std.Result Device Refusal) {k' : std.Result Device Refusal} {m' : Mem} → Addresses first (addressing s P bsr) m k m' → k ≡ k'
     → Answers (calls.address_device id P bsr) t m (outcome_of t id k') m'
 unfolding prog meaning address_device
 device_answers {t} {m} {id} {s} o q P bsr k h e = meets_as t (slot_opens 11 t id _ m s o) (rw (← e) (h id t (sym q)))

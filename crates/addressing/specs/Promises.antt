@@ -2,6 +2,10 @@
 -- Assumes nothing.
 use Rattle.std.specs.Prelude.{◌≡◌, Bool, ℕ, ◌-◌, ◌*◌, length, set}
 use Rattle.guest.specs.Prog.{Mem, Prog, Result, and_then}
+use Rattle.std.specs.Prelude as std
+use Rattle.std.specs.Prelude.{Ok, Err}
+use Rattle.definition.specs.declared.Refusal.{Refusal}
+use Rattle.definition.specs.Refusals.{code_of}
 use Rattle.definition.specs.Table.{with_slot}
 use Rattle.definition.specs.Commands.{Told, usb_types, context_check, plan, carry_out, copy_contexts}
 use Rattle.walks.specs.Promises.{walk}
@@ -10,8 +14,6 @@ use Rattle.scan.specs.Heads.{refusal}
 use Rattle.commands.specs.Promises.{tallied, Carries, Settles}
 use Rattle.addressing.specs.Types.{Endpoint, Slot, Table, Outcome}
 use Rattle.addressing.specs.declared.Device.{Device}
-use Rattle.addressing.specs.declared.Addressing.{Addressing}
-use Rattle.addressing.specs.declared.Addressing.TheVariants.{Refused, Done}
 
 -- the table with another endpoint 1 in slot id
 abbrev pub with_first : Table → ℕ → Endpoint → Table
@@ -32,10 +34,10 @@ Copies c slot x m s d m' =
 abbrev pub addressing : Slot → ℕ → Bool → ℕ → Table → ℕ → Prog (Result Told)
 addressing s P bsr len t id = and_then (context_check usb_types len P) λ adds. carry_out len P t id s (plan s.state bsr)
 
-abbrev pub outcome_of : Table → ℕ → Addressing → Outcome
-outcome_of t id (Refused c) = refusal t c
-outcome_of t id (Done d) = addressed t id d
+abbrev pub outcome_of : Table → ℕ → std.Result Device Refusal → Outcome
+outcome_of t id (Err e) = refusal t (code_of e)
+outcome_of t id (Ok d) = addressed t id d
 
 -- the program p was answered, for any id and table whose endpoint 1 is e
-abbrev pub Addresses : Endpoint → (ℕ → Table → ℕ → Prog (Result Told)) → Mem → Addressing → Mem → Type 0
+abbrev pub Addresses : Endpoint → (ℕ → Table → ℕ → Prog (Result Told)) → Mem → std.Result Device Refusal → Mem → Type 0
 Addresses e p m r m' = (id : ℕ) (t : Table) → first_of t id ≡ e → Settles (p (length m) t id) t m (outcome_of t id r) m'

@@ -1,27 +1,53 @@
 // Loops over the calls, for a driver in another language (`bench_c` exports them): each makes a start table (`stages`), calls the slot manager n times, and gives the sum of the answers' codes.
-// Every turn begins from the same start. `zero` is 0, which the compiler cannot know: no turn can begin before the one in front of it has answered.
 #![tactic(auto)]
 
-ghost use Rattle.formed.specs.Promises.{Ready};
+ghost use Rattle.std.specs.Prelude.{◌≡◌, true};
+ghost use Rattle.definition.specs.Table.{well_formed};
+ghost use Rattle.bench.specs.Call.{Names};
 
-use definition::{Dequeue, Look, Table};
+use definition::{Dequeue, Look, Outcome, Table};
 
 // ---- the calls
 
-// A loop takes one of its calls by its number.
-const ENABLE: u64 = 0;
+// A call. A loop knows some of them, and takes any other for the last of those that its comment names: by `_`, since what a C caller of bench_c's functions gets
+// for every number stays.
+#[derive(Clone, Copy, Debug, PartialEq, Eq)]
+pub enum Call {
+    Enable,
+    Disable,
+    Address,
+    Configure,
+    Evaluate,
+    Stop,
+    SetDequeue,
+    Reset,
+    Doorbell,
+}
 
-const DISABLE: u64 = 1;
+// A number that no call has.
+#[derive(Clone, Copy, Debug, PartialEq, Eq)]
+pub struct NoCall(pub u64);
 
-const ADDRESS: u64 = 2;
+impl TryFrom<u64> for Call {
+    type Error = NoCall;
 
-const CONFIGURE: u64 = 3;
+    ghost try_from_gives = { Names };
 
-const EVALUATE: u64 = 4;
-
-const STOP: u64 = 5;
-
-const SET_DEQUEUE: u64 = 6;
+    fn try_from(number: u64) -> Result<Self, NoCall> {
+        match number {
+            0 => Ok(Call::Enable),
+            1 => Ok(Call::Disable),
+            2 => Ok(Call::Address),
+            3 => Ok(Call::Configure),
+            4 => Ok(Call::Evaluate),
+            5 => Ok(Call::Stop),
+            6 => Ok(Call::SetDequeue),
+            7 => Ok(Call::Reset),
+            8 => Ok(Call::Doorbell),
+            _ => Err(NoCall(number)),
+        }
+    }
+}
 
 const PLACE: Dequeue = Dequeue {
     pointer: 12288,
@@ -34,204 +60,142 @@ const NOTHING_FOUND: Look = Look {
     cycle: true,
 };
 
-pub fn bench_enable(mem: &mut [u8], n: u64, stage: u64, zero: u64) -> u64 {
-    let mut start = stages::life(mem, stage);
-    let mut kept = start;
-    let mut turn: u64 = 0;
-    let mut a: u64 = 0;
-    while turn < n {
-        turn += 1;
-        start.dcbaap = a & zero;
-        let o = slot_manager::enable_slot(start);
-        kept = o.table;
-        a = guest::address::plus(a, o.answer.code);
+// ---- the loop
+
+// How a loop runs: n turns from the table of `stage`. `zero` is 0, which the compiler cannot know: no turn can begin before the one in front of it has answered.
+#[derive(Clone, Copy)]
+pub struct Run {
+    pub n: u64,
+    pub stage: u64,
+    pub zero: u64,
+}
+
+impl Run {
+    // Each turn is one call, which is given 0 and begins from the start again. It writes its outcome over the last one: handed back, it took a copy more.
+    fn turns<F: FnMut(&mut Outcome, u64)>(self, start: Table, mut call: F) -> u64
+        requires { F.IsAlwaysCallable call }
+    {
+        let mut last = Outcome {
+            table: start,
+            answer: scan::answer(0),
+        };
+        let mut a: u64 = 0;
+        for _ in 0..self.n {
+            call(&mut last, a & self.zero);
+            a = guest::address::plus(a, last.answer.code);
+        }
+        stages::summed(last.table, a)
     }
-    stages::summed(kept, a)
+}
+
+pub fn bench_enable(mem: &mut [u8], run: Run) -> u64 {
+    let start = stages::life(mem, run.stage);
+    run.turns(
+        start,
+        |last, zero| *last = slot_manager::enable_slot(Table {
+            dcbaap: zero,
+            ..start
+        }),
+    )
 }
 
 // Disable Slot or Reset Device.
-pub fn bench_slot(mem: &mut [u8], n: u64, stage: u64, call: u64, id: u64, zero: u64) -> u64 {
-    let start = stages::life(mem, stage);
-    let mut kept = start;
-    let mut turn: u64 = 0;
-    let mut a: u64 = 0;
-    while turn < n {
-        turn += 1;
-        let slot = id | (a & zero);
-        if call == DISABLE {
-            let o = slot_manager::disable_slot(start, mem, slot);
-            kept = o.table;
-            a = guest::address::plus(a, o.answer.code);
-            continue;
-        }
-        let o = slot_manager::reset_device(start, mem, slot);
-        kept = o.table;
-        a = guest::address::plus(a, o.answer.code);
+pub fn bench_slot(mem: &mut [u8], run: Run, call: Call, id: u64) -> u64 {
+    let start = stages::life(mem, run.stage);
+    match call {
+        Call::Disable => run.turns(
+            start,
+            |last, zero| *last = slot_manager::disable_slot(start, mem, id | zero),
+        ),
+        _ => run.turns(
+            start,
+            |last, zero| *last = slot_manager::reset_device(start, mem, id | zero),
+        ),
     }
-    stages::summed(kept, a)
 }
 
 // Address Device, Configure Endpoint or Evaluate Context. The flag is BSR or DC.
-pub fn bench_context(
-    mem: &mut [u8],
-    n: u64,
-    stage: u64,
-    call: u64,
-    pointer: u64,
-    flag: u64,
-    zero: u64,
-) -> u64 {
-    let start = stages::life(mem, stage);
-    let mut kept = start;
-    let mut turn: u64 = 0;
-    let mut a: u64 = 0;
-    while turn < n {
-        turn += 1;
-        let at = pointer | (a & zero);
-        if call == ADDRESS {
-            let o = slot_manager::address_device(start, mem, 1, at, flag != 0);
-            kept = o.table;
-            a = guest::address::plus(a, o.answer.code);
-            continue;
-        }
-        if call == CONFIGURE {
-            let o = slot_manager::configure_endpoint(start, mem, 1, at, flag != 0);
-            kept = o.table;
-            a = guest::address::plus(a, o.answer.code);
-            continue;
-        }
-        let o = slot_manager::evaluate_context(start, mem, 1, at);
-        kept = o.table;
-        a = guest::address::plus(a, o.answer.code);
+pub fn bench_context(mem: &mut [u8], run: Run, call: Call, pointer: u64, flag: bool) -> u64 {
+    let start = stages::life(mem, run.stage);
+    match call {
+        Call::Address => run.turns(
+            start,
+            |last, zero| *last = slot_manager::address_device(start, mem, 1, pointer | zero, flag),
+        ),
+        Call::Configure => run.turns(
+            start,
+            |last, zero| *last = slot_manager::configure_endpoint(
+                start,
+                mem,
+                1,
+                pointer | zero,
+                flag,
+            ),
+        ),
+        _ => run.turns(
+            start,
+            |last, zero| *last = slot_manager::evaluate_context(start, mem, 1, pointer | zero),
+        ),
     }
-    stages::summed(kept, a)
 }
 
 // Stop Endpoint, Set Dequeue or a doorbell.
-pub fn bench_endpoint(
-    mem: &mut [u8],
-    n: u64,
-    stage: u64,
-    call: u64,
-    id: u64,
-    i: u64,
-    zero: u64,
-) -> u64 {
-    let start = stages::life(mem, stage);
-    let mut kept = start;
-    let mut turn: u64 = 0;
-    let mut a: u64 = 0;
-    while turn < n {
-        turn += 1;
-        let slot = id | (a & zero);
-        if call == STOP {
-            let o = slot_manager::stop_endpoint(start, mem, slot, i);
-            kept = o.table;
-            a = guest::address::plus(a, o.answer.code);
-            continue;
-        }
-        if call == SET_DEQUEUE {
-            let o = slot_manager::set_dequeue(start, mem, slot, i, PLACE);
-            kept = o.table;
-            a = guest::address::plus(a, o.answer.code);
-            continue;
-        }
-        let o = slot_manager::doorbell(start, mem, slot, i, NOTHING_FOUND);
-        kept = o.table;
-        a = guest::address::plus(a, o.answer.code);
+pub fn bench_endpoint(mem: &mut [u8], run: Run, call: Call, id: u64, i: u64) -> u64 {
+    let start = stages::life(mem, run.stage);
+    match call {
+        Call::Stop => run.turns(
+            start,
+            |last, zero| *last = slot_manager::stop_endpoint(start, mem, id | zero, i),
+        ),
+        Call::SetDequeue => run.turns(
+            start,
+            |last, zero| *last = slot_manager::set_dequeue(start, mem, id | zero, i, PLACE),
+        ),
+        _ => run.turns(
+            start,
+            |last, zero| *last = slot_manager::doorbell(start, mem, id | zero, i, NOTHING_FOUND),
+        ),
     }
-    stages::summed(kept, a)
 }
 
-pub fn bench_doorbell_stop(mem: &mut [u8], n: u64, stage: u64, id: u64, i: u64, zero: u64) -> u64 {
-    let start = stages::life(mem, stage);
-    let mut kept = start;
-    let mut turn: u64 = 0;
-    let mut a: u64 = 0;
-    while turn < n {
-        turn += 1;
-        let slot = id | (a & zero);
-        let o = slot_manager::doorbell(start, mem, slot, i, NOTHING_FOUND);
-        let u = o.table;
-        let p = slot_manager::stop_endpoint(u, mem, slot, i);
-        kept = p.table;
-        a = guest::address::plus(a, p.answer.code);
-    }
-    stages::summed(kept, a)
+pub fn bench_doorbell_stop(mem: &mut [u8], run: Run, id: u64, i: u64) -> u64 {
+    let start = stages::life(mem, run.stage);
+    run.turns(start, |last, zero| {
+        let slot = id | zero;
+        let rung = slot_manager::doorbell(start, mem, slot, i, NOTHING_FOUND);
+        *last = slot_manager::stop_endpoint(rung.table, mem, slot, i);
+    })
 }
 
-// ---- the same without the scan: the start is found well formed once
-
-// Enable Slot or Evaluate Context.
-fn turns(start: Table, mem: &[u8], n: u64, call: u64, pointer: u64, zero: u64) -> u64
-    requires { Ready start mem.now }
+// Enable Slot without the scan. It has a frame of its own: in `bench_formed`'s its two tables lie so that each copy waits for the one before.
+#[inline(never)]
+fn enable_formed(start: &Table, run: Run) -> u64
+    requires { well_formed start.now ≡ true }
 {
-    let mut kept = start;
-    let mut turn: u64 = 0;
-    let mut a: u64 = 0;
-    while turn < n {
-        turn += 1;
-        if call == ENABLE {
-            let o = registers::enable_slot(start);
-            kept = o.table;
-            a = guest::address::plus(a, o.answer.code);
-            continue;
-        }
-        let at = pointer | (a & zero);
-        let o = formed::evaluate_context(start, mem, 1, at);
-        kept = o.table;
-        a = guest::address::plus(a, o.answer.code);
-    }
-    stages::summed(kept, a)
+    run.turns(*start, |last, _| *last = registers::enable_slot(*start))
 }
 
-// Stop Endpoint or a doorbell.
-fn endpoint_turns(
-    start: Table,
-    mem: &mut [u8],
-    n: u64,
-    call: u64,
-    id: u64,
-    i: u64,
-    zero: u64,
-) -> u64
-    requires { Ready start mem.old }
-{
-    let mut kept = start;
-    let mut turn: u64 = 0;
-    let mut a: u64 = 0;
-    while turn < n {
-        turn += 1;
-        let slot = id | (a & zero);
-        if call == STOP {
-            let o = formed::stop_endpoint(start, mem, slot, i);
-            kept = o.table;
-            a = guest::address::plus(a, o.answer.code);
-            continue;
-        }
-        let o = formed::doorbell(start, mem, slot, i, NOTHING_FOUND);
-        kept = o.table;
-        a = guest::address::plus(a, o.answer.code);
-    }
-    stages::summed(kept, a)
-}
-
-// Enable Slot, Evaluate Context with x as the pointer, Stop Endpoint or a doorbell to endpoint i of slot x.
-pub fn bench_formed(
-    mem: &mut [u8],
-    n: u64,
-    stage: u64,
-    call: u64,
-    x: u64,
-    i: u64,
-    zero: u64,
-) -> u64 {
-    let start = stages::life(mem, stage);
-    if scan::checks(start, mem.len() as u64) != 0 {
+// Enable Slot, Evaluate Context with x as the pointer, Stop Endpoint or a doorbell to endpoint i of slot x, without the scan: the start is found well formed once.
+pub fn bench_formed(mem: &mut [u8], run: Run, call: Call, x: u64, i: u64) -> u64 {
+    let start = stages::life(mem, run.stage);
+    let Ok(()) = scan::checks(start, mem.len() as u64) else {
         return 0;
+    };
+    match call {
+        Call::Enable => enable_formed(&start, run),
+        Call::Disable | Call::Address | Call::Configure | Call::Evaluate => {
+            run.turns(
+                start,
+                |last, zero| *last = formed::evaluate_context(start, mem, 1, x | zero),
+            )
+        }
+        Call::Stop => run.turns(
+            start,
+            |last, zero| *last = formed::stop_endpoint(start, mem, x | zero, i),
+        ),
+        _ => run.turns(
+            start,
+            |last, zero| *last = formed::doorbell(start, mem, x | zero, i, NOTHING_FOUND),
+        ),
     }
-    if call <= EVALUATE {
-        return turns(start, mem, n, call, x, zero);
-    }
-    endpoint_turns(start, mem, n, call, x, i, zero)
 }

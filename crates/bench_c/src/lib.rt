@@ -1,9 +1,16 @@
-// The loops of `bench`, exported to C under their names (bench/driver.c declares them).
+// The loops of `bench`, exported to C under their names (bench/driver.c declares them). Each has a run's three numbers one by one, as C passes them.
 #![tactic(auto)]
+
+use bench::{Call, Run};
+
+// The call with this number. A number that no call has stands for the doorbell, as a loop takes it for its last call.
+fn named(call: u64) -> Call {
+    Call::try_from(call).unwrap_or(Call::Doorbell)
+}
 
 #[unsafe(no_mangle)]
 pub extern "C" fn bench_enable(mem: &mut [u8], n: u64, stage: u64, zero: u64) -> u64 {
-    bench::bench_enable(mem, n, stage, zero)
+    bench::bench_enable(mem, Run { n, stage, zero })
 }
 
 #[unsafe(no_mangle)]
@@ -15,7 +22,7 @@ pub extern "C" fn bench_slot(
     id: u64,
     zero: u64,
 ) -> u64 {
-    bench::bench_slot(mem, n, stage, call, id, zero)
+    bench::bench_slot(mem, Run { n, stage, zero }, named(call), id)
 }
 
 #[unsafe(no_mangle)]
@@ -28,7 +35,7 @@ pub extern "C" fn bench_context(
     flag: u64,
     zero: u64,
 ) -> u64 {
-    bench::bench_context(mem, n, stage, call, pointer, flag, zero)
+    bench::bench_context(mem, Run { n, stage, zero }, named(call), pointer, flag != 0)
 }
 
 #[unsafe(no_mangle)]
@@ -41,7 +48,7 @@ pub extern "C" fn bench_endpoint(
     i: u64,
     zero: u64,
 ) -> u64 {
-    bench::bench_endpoint(mem, n, stage, call, id, i, zero)
+    bench::bench_endpoint(mem, Run { n, stage, zero }, named(call), id, i)
 }
 
 #[unsafe(no_mangle)]
@@ -53,7 +60,7 @@ pub extern "C" fn bench_doorbell_stop(
     i: u64,
     zero: u64,
 ) -> u64 {
-    bench::bench_doorbell_stop(mem, n, stage, id, i, zero)
+    bench::bench_doorbell_stop(mem, Run { n, stage, zero }, id, i)
 }
 
 #[unsafe(no_mangle)]
@@ -66,5 +73,5 @@ pub extern "C" fn bench_formed(
     i: u64,
     zero: u64,
 ) -> u64 {
-    bench::bench_formed(mem, n, stage, call, x, i, zero)
+    bench::bench_formed(mem, Run { n, stage, zero }, named(call), x, i)
 }

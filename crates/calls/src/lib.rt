@@ -1,141 +1,165 @@
-// The public calls of the slot manager, each by a number, and one value for a call with what it brings.
+// The public calls of the slot manager: their names, one value for a call with what it brings, and how its answer is written.
 #![tactic(auto)]
 
-use definition::{Dequeue, Given, Look, Outcome, Table};
+use definition::{Answer, Dequeue, Look, Outcome, Table};
+use std::fmt;
 
-pub const SET_LIMIT: usize = 0;
+// A public call, in the order of the calls: the calls on the table, on a slot, on an endpoint.
+#[derive(Clone, Copy, PartialEq, Eq, PartialOrd, Ord)]
+pub enum Call {
+    SetLimit,
+    SetDcbaap,
+    EnableSlot,
+    ResetAll,
+    DisableSlot,
+    AddressDevice,
+    ConfigureEndpoint,
+    EvaluateContext,
+    ResetDevice,
+    StopEndpoint,
+    ResetEndpoint,
+    SetDequeue,
+    Doorbell,
+    HostOk,
+    HostStall,
+    HostTransactionError,
+    HostTrbError,
+}
 
-pub const SET_DCBAAP: usize = 1;
+impl Call {
+    pub const ALL: [Call; 17] = [
+        Call::SetLimit,
+        Call::SetDcbaap,
+        Call::EnableSlot,
+        Call::ResetAll,
+        Call::DisableSlot,
+        Call::AddressDevice,
+        Call::ConfigureEndpoint,
+        Call::EvaluateContext,
+        Call::ResetDevice,
+        Call::StopEndpoint,
+        Call::ResetEndpoint,
+        Call::SetDequeue,
+        Call::Doorbell,
+        Call::HostOk,
+        Call::HostStall,
+        Call::HostTransactionError,
+        Call::HostTrbError,
+    ];
+}
 
-pub const ENABLE_SLOT: usize = 2;
-
-pub const RESET_ALL: usize = 3;
-
-pub const DISABLE_SLOT: usize = 4;
-
-pub const ADDRESS_DEVICE: usize = 5;
-
-pub const CONFIGURE_ENDPOINT: usize = 6;
-
-pub const EVALUATE_CONTEXT: usize = 7;
-
-pub const RESET_DEVICE: usize = 8;
-
-pub const STOP_ENDPOINT: usize = 9;
-
-pub const RESET_ENDPOINT: usize = 10;
-
-pub const SET_DEQUEUE: usize = 11;
-
-pub const DOORBELL: usize = 12;
-
-pub const HOST_OK: usize = 13;
-
-pub const HOST_STALL: usize = 14;
-
-pub const HOST_TRANSACTION_ERROR: usize = 15;
-
-pub const HOST_TRB_ERROR: usize = 16;
+impl fmt::Display for Call {
+    fn fmt<W: fmt::Write>(&self, f: &mut fmt::Formatter<W>) -> fmt::Result {
+        f.write_str(match self {
+            Call::SetLimit => "set-limit",
+            Call::SetDcbaap => "set-dcbaap",
+            Call::EnableSlot => "enable-slot",
+            Call::ResetAll => "reset-all",
+            Call::DisableSlot => "disable-slot",
+            Call::AddressDevice => "address-device",
+            Call::ConfigureEndpoint => "configure-endpoint",
+            Call::EvaluateContext => "evaluate-context",
+            Call::ResetDevice => "reset-device",
+            Call::StopEndpoint => "stop-endpoint",
+            Call::ResetEndpoint => "reset-endpoint",
+            Call::SetDequeue => "set-dequeue",
+            Call::Doorbell => "doorbell",
+            Call::HostOk => "host-ok",
+            Call::HostStall => "host-stall",
+            Call::HostTransactionError => "host-transaction-error",
+            Call::HostTrbError => "host-trb-error",
+        })
+    }
+}
 
 // One call. What it takes of an id, an endpoint's number, a pointer and a flag is its own affair: a limit and DCBAAP come as the id.
+// The numbers lie beside the call and not in its variant, since every call is given the same ones, and all four are printed.
 #[derive(Clone, Copy)]
 pub struct Try {
-    pub call: usize,
+    pub call: Call,
     pub id: u64,
     pub i: u64,
     pub pointer: u64,
     pub flag: bool,
 }
 
-// The calls that bring a place on a transfer ring. A look reports that it has found a TRB.
-fn on_ring(t: Table, mem: &mut [u8], x: Try) -> Outcome {
-    if x.call == DOORBELL {
-        return slot_manager::doorbell(
-            t,
-            mem,
-            x.id,
-            x.i,
-            Look {
-                found: true,
-                pointer: x.pointer,
-                cycle: x.flag,
-            },
-        );
+// The call with its numbers.
+impl fmt::Display for Try {
+    fn fmt<W: fmt::Write>(&self, f: &mut fmt::Formatter<W>) -> fmt::Result {
+        let Try {
+            call,
+            id,
+            i,
+            pointer,
+            flag,
+        } = *self;
+        write!(f, "{call} {id} {i} {pointer} {}", u8::from(flag))
     }
-    if x.call == HOST_OK {
-        return slot_manager::host_ok(
-            t,
-            mem,
-            x.id,
-            x.i,
-            Look {
-                found: true,
-                pointer: x.pointer,
-                cycle: x.flag,
-            },
-        );
-    }
-    let place = Dequeue {
-        pointer: x.pointer,
-        cycle: x.flag,
-    };
-    if x.call == SET_DEQUEUE {
-        return slot_manager::set_dequeue(t, mem, x.id, x.i, place);
-    }
-    if x.call == HOST_STALL {
-        return slot_manager::host_stall(t, mem, x.id, x.i, Given::At(place));
-    }
-    slot_manager::host_transaction_error(t, mem, x.id, x.i, Given::At(place))
 }
 
-fn on_endpoint(t: Table, mem: &mut [u8], x: Try) -> Outcome {
-    if x.call == STOP_ENDPOINT {
-        return slot_manager::stop_endpoint(t, mem, x.id, x.i);
+impl Try {
+    fn place(self) -> Dequeue {
+        Dequeue {
+            pointer: self.pointer,
+            cycle: self.flag,
+        }
     }
-    if x.call == RESET_ENDPOINT {
-        return slot_manager::reset_endpoint(t, mem, x.id, x.i);
-    }
-    if x.call == HOST_TRB_ERROR {
-        return slot_manager::host_trb_error(t, mem, x.id, x.i);
-    }
-    on_ring(t, mem, x)
-}
 
-fn on_slot(t: Table, mem: &mut [u8], x: Try) -> Outcome {
-    if x.call == DISABLE_SLOT {
-        return slot_manager::disable_slot(t, mem, x.id);
+    // A look that has found a TRB.
+    fn look(self) -> Look {
+        Look {
+            found: true,
+            pointer: self.pointer,
+            cycle: self.flag,
+        }
     }
-    if x.call == ADDRESS_DEVICE {
-        return slot_manager::address_device(t, mem, x.id, x.pointer, x.flag);
-    }
-    if x.call == CONFIGURE_ENDPOINT {
-        return slot_manager::configure_endpoint(t, mem, x.id, x.pointer, x.flag);
-    }
-    if x.call == EVALUATE_CONTEXT {
-        return slot_manager::evaluate_context(t, mem, x.id, x.pointer);
-    }
-    slot_manager::reset_device(t, mem, x.id)
-}
-
-fn on_table(t: Table, mem: &mut [u8], x: Try) -> Outcome {
-    if x.call == SET_LIMIT {
-        return slot_manager::set_limit(t, x.id);
-    }
-    if x.call == SET_DCBAAP {
-        return slot_manager::set_dcbaap(t, x.id);
-    }
-    if x.call == ENABLE_SLOT {
-        return slot_manager::enable_slot(t);
-    }
-    slot_manager::reset_all(t, mem)
 }
 
 pub fn make(t: Table, mem: &mut [u8], x: Try) -> Outcome {
-    if x.call <= RESET_ALL {
-        return on_table(t, mem, x);
+    match x.call {
+        Call::SetLimit => slot_manager::set_limit(t, x.id),
+        Call::SetDcbaap => slot_manager::set_dcbaap(t, x.id),
+        Call::EnableSlot => slot_manager::enable_slot(t),
+        Call::ResetAll => slot_manager::reset_all(t, mem),
+        Call::DisableSlot => slot_manager::disable_slot(t, mem, x.id),
+        Call::AddressDevice => slot_manager::address_device(t, mem, x.id, x.pointer, x.flag),
+        Call::ConfigureEndpoint => {
+            slot_manager::configure_endpoint(t, mem, x.id, x.pointer, x.flag)
+        }
+        Call::EvaluateContext => slot_manager::evaluate_context(t, mem, x.id, x.pointer),
+        Call::ResetDevice => slot_manager::reset_device(t, mem, x.id),
+        Call::StopEndpoint => slot_manager::stop_endpoint(t, mem, x.id, x.i),
+        Call::ResetEndpoint => slot_manager::reset_endpoint(t, mem, x.id, x.i),
+        Call::SetDequeue => slot_manager::set_dequeue(t, mem, x.id, x.i, x.place()),
+        Call::Doorbell => slot_manager::doorbell(t, mem, x.id, x.i, x.look()),
+        Call::HostOk => slot_manager::host_ok(t, mem, x.id, x.i, x.look()),
+        Call::HostStall => slot_manager::host_stall(t, mem, x.id, x.i, Some(x.place())),
+        Call::HostTransactionError => {
+            slot_manager::host_transaction_error(t, mem, x.id, x.i, Some(x.place()))
+        }
+        Call::HostTrbError => slot_manager::host_trb_error(t, mem, x.id, x.i),
     }
-    if x.call <= RESET_DEVICE {
-        return on_slot(t, mem, x);
+}
+
+// An answer as it is written: its eight numbers.
+#[derive(Clone, Copy, Debug, PartialEq, Eq)]
+pub struct Shown(pub Answer);
+
+impl fmt::Display for Shown {
+    fn fmt<W: fmt::Write>(&self, f: &mut fmt::Formatter<W>) -> fmt::Result {
+        let Answer {
+            code,
+            slot,
+            launched,
+            terminated,
+            port,
+            stored,
+            submit,
+            cancel,
+        } = self.0;
+        write!(
+            f,
+            "{code} {slot} {launched} {terminated} {port} {stored} {submit} {cancel}"
+        )
     }
-    on_endpoint(t, mem, x)
 }

@@ -9,8 +9,11 @@ use native.Mathlib.Omega.{arith}
 use lib.ListN.{length}
 use Rattle.guest.specs.Bytes.{number, located, bit, count, those, set_bits}
 use Rattle.guest.specs.Prog.{Mem, Prog, done, block, run, bind, each, Result, refuse, every}
-use Rattle.guest.specs.declared.Located.{Located}
-use Rattle.guest.specs.declared.Located.TheVariants.{At, Outside}
+use Rattle.std.specs.Prelude as std
+use Rattle.std.specs.Prelude.{Option, Some, None, Ok, Err}
+use Rattle.definition.specs.declared.Refusal.{Refusal}
+use Rattle.definition.specs.declared.Refusal.TheVariants.{State}
+use Rattle.definition.specs.Refusals.{code_of}
 use Rattle.guest.proofs.RunLaws.{run_done, run_get, run_bind, inside_yes, inside_no, need_yes, need_no, located_at, located_outside, after, ends_from}
 use Rattle.guest.proofs.ReadLaws.{run_length}
 use Rattle.definition.specs.Walks.{begin, terminate_all}
@@ -19,8 +22,6 @@ use Rattle.definition.specs.Commands.{Told, usb_types, finish, deconfigure, need
 use Rattle.definition.specs.Calls.{configure_endpoint, meaning, prog}
 use Rattle.definition.specs.Rules.{Opened}
 use Rattle.definition.proofs.HeadLaws.{slot_opens}
-use Rattle.contexts.specs.declared.Checked.{Checked}
-use Rattle.contexts.specs.declared.Checked.TheVariants as checks
 use Rattle.contexts.specs.Checks.{Checks}
 use Rattle.contexts.specs.Ranges.{ranges_inside}
 use Rattle.contexts.proofs.CheckLaws.{check_goes_on, check_refuses}
@@ -33,8 +34,6 @@ use Rattle.scan.proofs.OpeningLaws.{refuses_with, refuses_at_once, meets_as}
 use Rattle.commands.proofs.OutcomeLaws.{settled_yes, settled_no, carried, settles_as}
 use Rattle.commands.specs.Types.{SlotState, Addressed, Configured, Slot, Table, Outcome}
 use Rattle.commands.specs.declared.configure.Flags.{Flags}
-use Rattle.commands.specs.declared.configure.Plan.{Plan}
-use Rattle.commands.specs.declared.configure.Plan.TheVariants.{Refused, Walk}
 use Rattle.commands.specs.Promises.{Carries, Answers, Settles, is_settled, configuring, walking, Walkable, Plans}
 
 -- ---- the walk
@@ -66,19 +65,19 @@ module _ (id P : ℕ) (s : Slot) (t : Table) (m : Mem) where
   abbrev Walked : ℕ → ℕ → Prog (Result Told)
   Walked drops adds = bind (drop_and_add id P s.base (set_bits 30 2 drops) (set_bits 30 2 adds) (begin t)) (finish id s Configured)
 
-  module _ {k : Checked} (w : Checks P m k) where
-    pub check_refused : {c : ℕ} → k ≡ checks.Refused c → Settles Whole t m (refusal t c) m
+  module _ {k : std.Result ℕ Refusal} (w : Checks P m k) where
+    pub check_refused : {c : Refusal} → k ≡ Err c → Settles Whole t m (refusal t (code_of c)) m
     unfolding reconfigure
     check_refused e = refuses_with t (check_refuses P m _ w e)
 
-    module _ {adds : ℕ} {place : Located} (e : k ≡ checks.Adds adds) (found : place ≡ located (length m) P 4) where
-      pub drops_outside : place ≡ Outside → Settles Whole t m (refusal t 193) m
+    module _ {adds : ℕ} {place : Option ℕ} (e : k ≡ Ok adds) (found : place ≡ located (length m) P 4) where
+      pub drops_outside : place ≡ None → Settles Whole t m (refusal t 193) m
       unfolding reconfigure
       drops_outside o =
           let h = inside_no _ _ _ (located_outside (length m) P 4 (sym found ∙ o)) in
           refuses_with t (record { ends = check_goes_on P m _ w e ∙ rw (need_no _ _ _ _ h) (run_done (refuse 193) m 0) })
 
-      module _ {at drops : ℕ} (here : place ≡ At at) (read : drops ≡ number (block m at 4)) {inside : Bool} (i : inside ≡ ranges_inside (length m) P s.base adds) where
+      module _ {at drops : ℕ} (here : place ≡ Some at) (read : drops ≡ number (block m at 4)) {inside : Bool} (i : inside ≡ ranges_inside (length m) P s.base adds) where
         -- past the check and the drop flags
         past : run Whole m 0 ≡ run (every (set_bits 30 2 adds) (need_contexts (length m) P s.base) (Walked drops adds)) m 0
         unfolding reconfigure
@@ -119,22 +118,22 @@ drops_alone id P s t m =
 
 module _ (P : ℕ) (s : Slot) (m : Mem) where
   -- the state is wrong
-  pub plan_unsettled : (dc : Bool) → is_settled s.state ≡ false → Plans P s dc m (Refused 19)
+  pub plan_unsettled : (dc : Bool) → is_settled s.state ≡ false → Plans P s dc m (Err State)
   plan_unsettled true e id t = refuses_at_once t m (settled_no s.state _ e)
   plan_unsettled false e id t = refuses_at_once t m (settled_no s.state _ e)
 
   module _ (e : is_settled s.state ≡ true) where
     -- DC=0, refused
-    pub plan_refuses : {c : ℕ} → ((id : ℕ) (t : Table) → Settles (reconfigure usb_types id P s (length m) t) t m (refusal t c) m) → Plans P s false m (Refused c)
-    plan_refuses h id t = meets_as t (settled_yes s.state _ e) (h id t)
+    pub plan_refuses : (c : Refusal) → ((id : ℕ) (t : Table) → Settles (reconfigure usb_types id P s (length m) t) t m (refusal t (code_of c)) m) → Plans P s false m (Err c)
+    plan_refuses c h id t = meets_as t (settled_yes s.state _ e) (h id t)
 
     -- DC=0
     pub plan_goes : {f : Flags} → ((id : ℕ) (t : Table) → run (reconfigure usb_types id P s (length m) t) m 0 ≡ run (walking id P s f t) m 0)
-        → Spaces P s.base f.adds (length m) → s.base + 64 ≤ length m → Plans P s false m (Walk f)
+        → Spaces P s.base f.adds (length m) → s.base + 64 ≤ length m → Plans P s false m (Ok f)
     plan_goes h r b = record { runs = λ id t. ap (λ p. run p m 0) (settled_yes s.state _ e) ∙ h id t; spaces = r; room = b }
 
     -- DC=1: every flag is set among the drops, and none among the adds
-    pub plan_drops : s.base + 64 ≤ length m → Plans P s true m (Walk (record { drops = 4294967295; adds = 0; next = Addressed }))
+    pub plan_drops : s.base + 64 ≤ length m → Plans P s true m (Ok (record { drops = 4294967295; adds = 0; next = Addressed }))
     plan_drops b =
         record {
           runs = λ id t. ap (λ p. run p m 0) (settled_yes s.state _ e) ∙ drops_alone id P s t m;
@@ -149,15 +148,15 @@ unfolding meaning commands.configure_endpoint
 opens P true {id} {s} {t} {m} o = slot_opens 11 t id _ m s o
 opens P false {id} {s} {t} {m} o = slot_opens 11 t id _ m s o
 
-module _ {id : ℕ} {s : Slot} {t : Table} {m : Mem} (o : Opened t m id s) (P : ℕ) (dc : Bool) (k : Plan) (p : Plans P s dc m k) where
+module _ {id : ℕ} {s : Slot} {t : Table} {m : Mem} (o : Opened t m id s) (P : ℕ) (dc : Bool) (k : std.Result Flags Refusal) (p : Plans P s dc m k) where
   -- the flags of the plan
-  pub planned : {f : Flags} → k ≡ Walk f → Walkable P s dc m f
+  pub planned : {f : Flags} → k ≡ Ok f → Walkable P s dc m f
   planned e = rw e at p
 
-  pub configure_refused : {c : ℕ} → k ≡ Refused c → Answers (configure_endpoint id P dc) t m (refusal t c) m
+  pub configure_refused : {c : Refusal} → k ≡ Err c → Answers (configure_endpoint id P dc) t m (refusal t (code_of c)) m
   unfolding prog
   configure_refused e = meets_as t (opens P dc o) ((rw e at p) id t)
 
-  pub configured : {f : Flags} {r : Outcome} {m' : Mem} → k ≡ Walk f → Carries (walking id P s f t) m 0 r m' → Answers (configure_endpoint id P dc) t m r m'
+  pub configured : {f : Flags} {r : Outcome} {m' : Mem} → k ≡ Ok f → Carries (walking id P s f t) m 0 r m' → Answers (configure_endpoint id P dc) t m r m'
   unfolding prog
   configured {f} e h = meets_as t (opens P dc o) (settles_as t _ (walking id P s f t) ((planned e).runs id t) (carried t h))

@@ -2,29 +2,40 @@
 -- Assumes nothing.
 use mathlib.Core.Path.{◌≡◌, refl, sym, ap, ◌∙◌}
 use mathlib.Core.Bool.{Bool, true, false, not, cond, ◌&&◌}
-use Prim.Native.Nat.{ℕ, ◌*◌, ◌≤◌, ◌<◌}
+use Prim.Native.Nat.{ℕ, ◌*◌, ◌≤◌}
 use native.Mathlib.Omega.{arith}
-use borrow.Author.Tests.{leb-true, le-leb, lt-leb, ltb-true, ltb-false}
-use lib.Dec.{leb, ltb}
+use borrow.Author.Tests.{leb-true, le-leb}
+use lib.Dec.{leb}
 use lib.ListN.{length}
+use Rattle.std.specs.Prelude as std
+use Rattle.std.specs.Int.{from_bool}
+use Rattle.std.specs.Prelude.{Option, Some, None, Ok, Err}
 use Rattle.guest.specs.Bytes.{◌⊕◌}
+use Rattle.definition.specs.declared.Refusal.{Refusal}
+use Rattle.definition.specs.Refusals.{code_of}
 use Rattle.guest.specs.Prog.{Mem, Prog, done, Result, ok, and_then}
 use Rattle.guest.proofs.RunLaws.{choose_yes, choose_no, passes, refuses, run_done}
 use Rattle.guest.proofs.ListLaws.{and_left, and_right}
 use Rattle.definition.specs.Table.{is_disabled, disabled, endpoint_of, slot_of, with_endpoint, well_formed}
 use Rattle.definition.specs.Steps.{step}
 use Rattle.definition.specs.Commands.{Told, on_endpoint, stepped}
-use Rattle.definition.specs.Calls.{counted}
 use Rattle.definition.proofs.FormedFacts.{clash, ok_enabled, formed_fits, fits_serve}
 use Rattle.endpoint.specs.declared.Taken.{Taken}
-use Rattle.endpoint.specs.Promises.{value_of, Ready, Takes}
+use Rattle.endpoint.specs.Promises.{Ready, Takes}
 use Rattle.endpoint.proofs.PromiseLaws.{goes_on, is_refused}
 use Rattle.scan.specs.Heads.{record_at, refusal}
 use Rattle.scan.proofs.ScanLaws.{record_is}
 use Rattle.scan.proofs.OpeningLaws.{refuses_at_once, refuses_with, meets_ok, meets_as}
 use Rattle.commands.specs.Types.{Endpoint, Slot, Table, Input}
-use Rattle.commands.specs.declared.reach.Settled.{Settled}
-use Rattle.commands.specs.Promises.{reaching, applied_to, Settles, Reaches}
+use Rattle.commands.specs.Promises.{reaching, applied_to, settled_to, Settles, Reaches}
+
+-- a flag as a number of the answer
+pub one_if : (b : Bool) → from_bool b ≡ cond b 1 0
+one_if true = refl
+one_if false = refl
+
+none_some : (x : std.Result Taken Refusal) → ◌≡◌ {A = Option (std.Result Taken Refusal)} None (Some x) → ⊥
+none_some x h = let z : ◌≡◌ {A = ℕ} 0 1 = cc in omega arith
 
 -- ---- the record of endpoint i of slot id
 
@@ -58,11 +69,8 @@ module _ (absent : ℕ) (t : Table) (id i : ℕ) (input : Input) (s : Slot) (m :
   unfolding on_endpoint
   absent_at e = refuses_at_once t m (choose_no _ _ _ e)
 
-  pub reach_zero : i ≡ 0 → Settles (reaching absent id i input s t) t m (refusal t absent) m
-  reach_zero e = absent_at (simp (lt-leb 1 i (omega arith)))
-
-  pub reach_high : 31 < i → Settles (reaching absent id i input s t) t m (refusal t absent) m
-  reach_high h = absent_at (simp (le-leb 1 i (omega arith), lt-leb i 31 h))
+  pub reach_outside : (leb 1 i && leb i 31) ≡ false → Settles (reaching absent id i input s t) t m (refusal t absent) m
+  reach_outside e = absent_at (rw e refl)
 
   module _ {e : Endpoint} (q : record_at t id i ≡ e) where
     pub reach_disabled : is_disabled e ≡ true → Settles (reaching absent id i input s t) t m (refusal t absent) m
@@ -85,49 +93,45 @@ module _ (absent : ℕ) (t : Table) (id i : ℕ) (input : Input) (s : Slot) (m :
           let is : endpoint_of t id i ≡ e = own_record t id i h.0 h.1 ∙ q in
           rw is (choose_yes _ _ _ (simp (le-leb 1 i h.0, le-leb i 31 h.1, d)))
 
-      module _ {r : Taken} {m' : Mem} (k : Takes (step e input (s.base ⊕ 32 * i)) e m r m') where
-        -- the step is refused
-        reach_refused : 1 < r.code → Settles (reaching absent id i input s t) t m (refusal t r.code) m'
-        reach_refused h =
-            let same = k.kept h in
-            rw same (meets_as t enabled_at (refuses_with t (refuses (λ r. done (ok (stepped r, with_endpoint t id i r.endpoint))) (rw same at (is_refused k h)))))
+      -- the step is refused
+      reach_refused : {x : Refusal} {m' : Mem} → Takes (step e input (s.base ⊕ 32 * i)) m (Err x) m' → Settles (reaching absent id i input s t) t m (refusal t (code_of x)) m'
+      reach_refused k =
+          let same = k.kept in
+          rw same (meets_as t enabled_at (refuses_with t (refuses (λ r. done (ok (stepped r, with_endpoint t id i r.endpoint))) (rw same at (is_refused k)))))
 
-        -- the step is taken
-        reach_taken : r.code ≤ 1
-            → Settles (reaching absent id i input s t) t m
-            (record { table = with_endpoint t id i r.endpoint; answer = counted (stepped (value_of r)) r.stored }) m'
-        reach_taken h =
-            meets_as t enabled_at
-            (meets_ok t (record { ends = passes (λ r. done (ok (stepped r, with_endpoint t id i r.endpoint))) (goes_on k h) ∙ run_done _ m' r.stored }))
+      -- the step is taken
+      reach_taken : {r : Taken} {m' : Mem} → Takes (step e input (s.base ⊕ 32 * i)) m (Ok r) m' → Settles (reaching absent id i input s t) t m (applied_to t id i r) m'
+      reach_taken {r} {m'} k =
+          meets_as t enabled_at
+          (meets_ok t (record { ends = passes (λ r. done (ok (stepped r, with_endpoint t id i r.endpoint))) (goes_on k) ∙ run_done _ m' r.stored }))
 
 -- ---- what `settle` gives
 
-module _ {e : Endpoint} (s : Slot) (i : ℕ) (input : Input) (absent : ℕ) {m : Mem} where
-  pub settled_disabled : is_disabled e ≡ true → Reaches e s i input absent m (record { refused = true; endpoint = e; code = absent; stored = 0; submit = 0; cancel = 0 }) m
-  settled_disabled d = record { answers = λ id t q. reach_disabled absent t id i input s m q d; enabled = λ h. absurd (clash true refl h) }
+module _ {e : Endpoint} (s : Slot) (i : ℕ) (input : Input) {m : Mem} where
+  pub settled_disabled : is_disabled e ≡ true → Reaches e s i input m None m
+  settled_disabled d = record { answers = λ absent id t q. reach_disabled absent t id i input s m q d; enabled = λ x h. absurd (none_some x h) }
 
-  pub settled_stepped : is_disabled e ≡ false → {r : Taken} {m' : Mem} → Takes (step e input (s.base ⊕ 32 * i)) e m r m'
-      → Reaches e s i input absent m
-      (record { refused = ltb 1 r.code; endpoint = r.endpoint; code = r.code; stored = r.stored; submit = cond r.submit 1 0; cancel = cond r.cancel 1 0 }) m'
-  settled_stepped d {r} {m'} k = record { answers = λ id t q. by id t q (ltb 1 r.code) refl; enabled = λ h. d }
+  pub settled_stepped : is_disabled e ≡ false → (r : std.Result Taken Refusal) {m' : Mem} → Takes (step e input (s.base ⊕ 32 * i)) m r m' → Reaches e s i input m (Some r) m'
+  settled_stepped d r {m'} k = record { answers = λ absent id t q. by r k absent id t q; enabled = λ x h. d }
     where
-      by : (id : ℕ) (t : Table) → record_at t id i ≡ e → (b : Bool) → ltb 1 r.code ≡ b
-          → Settles (reaching absent id i input s t) t m
-          (cond b (refusal t r.code)
-          (applied_to t id i
-          (record { refused = b; endpoint = r.endpoint; code = r.code; stored = r.stored; submit = cond r.submit 1 0; cancel = cond r.cancel 1 0 }))) m'
-      by id t q true h = reach_refused absent t id i input s m q d k (ltb-true 1 r.code h)
-      by id t q false h = reach_taken absent t id i input s m q d k (ltb-false 1 r.code h)
+      by : (r : std.Result Taken Refusal) → Takes (step e input (s.base ⊕ 32 * i)) m r m' → (absent id : ℕ) (t : Table) → record_at t id i ≡ e
+          → Settles (reaching absent id i input s t) t m (settled_to absent t id i (Some r)) m'
+      by (Ok r) k absent id t q = reach_taken absent t id i input s m q d k
+      by (Err x) k absent id t q = reach_refused absent t id i input s m q d k
 
 -- ---- what its caller has of it
 
-module _ {e : Endpoint} {s : Slot} {i : ℕ} {input : Input} {absent : ℕ} {m : Mem} {r : Settled} {m' : Mem} (k : Reaches e s i input absent m r m') (id : ℕ) (t : Table) (q : e ≡ record_at t id i) where
-  pub reach_refuses : r.refused ≡ true → Settles (reaching absent id i input s t) t m (refusal t r.code) m'
-  reach_refuses h = rw h at (k.answers id t (sym q))
+module _ {e : Endpoint} {s : Slot} {i : ℕ} {input : Input} {m : Mem} {r : Option (std.Result Taken Refusal)} {m' : Mem} (k : Reaches e s i input m r m') (absent id : ℕ) (t : Table) (q : e ≡ record_at t id i) where
+  pub reach_absent : r ≡ None → Settles (reaching absent id i input s t) t m (refusal t absent) m'
+  reach_absent h = rw h at (k.answers absent id t (sym q))
 
-  pub reach_applies : r.refused ≡ false → Settles (reaching absent id i input s t) t m (applied_to t id i r) m'
-  reach_applies h = rw h at (k.answers id t (sym q))
+  module _ {y : std.Result Taken Refusal} (there : r ≡ Some y) where
+    pub reach_refuses : {x : Refusal} → y ≡ Err x → Settles (reaching absent id i input s t) t m (refusal t (code_of x)) m'
+    reach_refuses h = rw (there, h) at (k.answers absent id t (sym q))
 
-  -- what `applied` asks
-  pub reach_found : r.refused ≡ false → (1 ≤ i) × (i ≤ 31)
-  reach_found h = record_found t id i q (k.enabled h)
+    pub reach_applies : {x : Taken} → y ≡ Ok x → Settles (reaching absent id i input s t) t m (applied_to t id i x) m'
+    reach_applies h = rw (there, h) at (k.answers absent id t (sym q))
+
+    -- what `applied` asks
+    pub reach_found : (1 ≤ i) × (i ≤ 31)
+    reach_found = record_found t id i q (k.enabled y there)

@@ -1,9 +1,13 @@
 -- What the commands promise, and what their parts do.
 -- Assumes nothing.
 use Rattle.std.specs.Prelude.{◌≡◌, Bool, true, false, cond, leb, ℕ, ◌+◌, ◌*◌, ◌≤◌, length}
+use Rattle.std.specs.Prelude as std
+use Rattle.std.specs.Prelude.{Option, Some, None, Ok, Err}
 use Rattle.guest.specs.Bytes.{◌⊕◌, set_bits}
 use Rattle.guest.specs.Prog.{Mem, Prog, done, run, bind, Ends, Result, ok, and_then}
 use Rattle.commands.specs.Types.{Input, Endpoint, SlotState, Addressed, Slot, Table, Outcome}
+use Rattle.definition.specs.declared.Refusal.{Refusal}
+use Rattle.definition.specs.Refusals.{code_of}
 use Rattle.definition.specs.Table.{slot_number, is_disabled, with_endpoint}
 use Rattle.definition.specs.Steps.{step}
 use Rattle.definition.specs.Walks.{begin}
@@ -12,10 +16,8 @@ use Rattle.definition.specs.Calls.{Call, counted, told, prog, Meets}
 use Rattle.walks.specs.Promises.{Spaces}
 use Rattle.scan.specs.Heads.{record_at, refusal}
 use Rattle.commands.specs.declared.configure.Flags.{Flags}
-use Rattle.commands.specs.declared.configure.Plan.{Plan}
-use Rattle.commands.specs.declared.configure.Plan.TheVariants.{Refused, Walk}
 use Rattle.commands.specs.declared.outcome.Tally.{Tally}
-use Rattle.commands.specs.declared.reach.Settled.{Settled}
+use Rattle.endpoint.specs.declared.Taken.{Taken}
 
 -- success, with what was launched, terminated and stored
 abbrev pub tallied : Table → Tally → Outcome
@@ -65,7 +67,7 @@ reaching absent id i input s t =
     done (ok (stepped r, with_endpoint t id i r.endpoint))
 
 -- the table with the endpoint's record, and the call's answer
-abbrev pub applied_to : Table → ℕ → ℕ → Settled → Outcome
+abbrev pub applied_to : Table → ℕ → ℕ → Taken → Outcome
 applied_to t id i r =
     record {
       table = with_endpoint t id i r.endpoint;
@@ -77,16 +79,21 @@ applied_to t id i r =
             terminated = 0;
             port = 0;
             stored = r.stored;
-            submit = r.submit;
-            cancel = r.cancel;
+            submit = cond r.submit 1 0;
+            cancel = cond r.cancel 1 0;
           };
     }
 
--- the call was answered, for any id and table whose record of endpoint i is e; an endpoint that is not refused is enabled
-pub record Reaches (e : Endpoint) (s : Slot) (i : ℕ) (input : Input) (absent : ℕ) (m : Mem) (r : Settled) (m' : Mem) : Type 0 where
-  pub answers : (id : ℕ) (t : Table) → record_at t id i ≡ e
-      → Settles (reaching absent id i input s t) t m (cond r.refused (refusal t r.code) (applied_to t id i r)) m'
-  pub enabled : r.refused ≡ false → is_disabled e ≡ false
+-- .. or its refusal; `absent` is the code where there is no such endpoint
+abbrev pub settled_to : ℕ → Table → ℕ → ℕ → Option (std.Result Taken Refusal) → Outcome
+settled_to absent t id i None = refusal t absent
+settled_to absent t id i (Some (Ok r)) = applied_to t id i r
+settled_to absent t id i (Some (Err x)) = refusal t (code_of x)
+
+-- the call was answered, for any code of an absent endpoint, any id and any table whose record of endpoint i is e; an endpoint that takes a step is enabled
+pub record Reaches (e : Endpoint) (s : Slot) (i : ℕ) (input : Input) (m : Mem) (r : Option (std.Result Taken Refusal)) (m' : Mem) : Type 0 where
+  pub answers : (absent id : ℕ) (t : Table) → record_at t id i ≡ e → Settles (reaching absent id i input s t) t m (settled_to absent t id i r) m'
+  pub enabled : (x : std.Result Taken Refusal) → r ≡ Some x → is_disabled e ≡ false
 
 -- ---- Configure Endpoint, its slot being found
 
@@ -106,6 +113,6 @@ pub record Walkable (P : ℕ) (s : Slot) (dc : Bool) (m : Mem) (f : Flags) : Typ
   pub room : s.base + 64 ≤ length m
 
 -- a plan is the command's
-abbrev pub Plans : ℕ → Slot → Bool → Mem → Plan → Type 0
-Plans P s dc m (Refused c) = (id : ℕ) (t : Table) → Settles (configuring id P s dc (length m) t) t m (refusal t c) m
-Plans P s dc m (Walk f) = Walkable P s dc m f
+abbrev pub Plans : ℕ → Slot → Bool → Mem → std.Result Flags Refusal → Type 0
+Plans P s dc m (Err e) = (id : ℕ) (t : Table) → Settles (configuring id P s dc (length m) t) t m (refusal t (code_of e)) m
+Plans P s dc m (Ok f) = Walkable P s dc m f

@@ -6,11 +6,10 @@ ghost use Rattle.commands.specs.Promises.{Answers, Plans, is_settled};
 
 use crate::outcome::Tally;
 use crate::{device, outcome};
-use contexts::Checked;
-use definition::{Outcome, Slot, SlotState, Table};
-use guest::Located;
+use definition::{Outcome, Refusal, Slot, SlotState, Table};
 
-// The drop and add flags, of which bits 2 to 31 count, and the slot's next state.
+// What is to be done, found before anything is stored, and once every range lies in memory: the drop and add flags, of which bits 2 to 31 count, and
+// the slot's next state.
 #[derive(Clone, Copy)]
 pub struct Flags {
     pub drops: u32,
@@ -18,31 +17,19 @@ pub struct Flags {
     pub next: SlotState,
 }
 
-// What is to be done, found before anything is stored: a refusal, or a walk whose every range lies in memory.
-#[derive(Clone, Copy)]
-pub enum Plan {
-    Refused(u64),
-    Walk(Flags),
-}
-
 // DC=0: the context check, the drop flags, the ranges.
-fn flags_of(mem: &[u8], slot: Slot, pointer: u64) -> Plan
+fn flags_of(mem: &[u8], slot: Slot, pointer: u64) -> Result<Flags, Refusal>
     requires { (is_settled slot.state ≡ true) × (slot.base + 64 ≤ length mem.now) }
     ensures { Plans pointer slot false mem.now result }
 {
-    let adds = match contexts::context_check(mem, pointer) {
-        Checked::Refused(code) => return Plan::Refused(code),
-        Checked::Adds(adds) => adds,
-    };
+    let adds = contexts::context_check(mem, pointer)?;
     let length = mem.len() as u64;
-    let Located::At(at) = guest::address::locate(pointer, 4, length) else {
-        return Plan::Refused(193);
-    };
+    let at = guest::address::locate(pointer, 4, length).ok_or(Refusal::Outside)?;
     let drops = guest::words::read_u32(mem, at);
     if !contexts::ranges_inside(length, pointer, slot.base, adds) {
-        return Plan::Refused(193);
+        return Err(Refusal::Outside);
     }
-    Plan::Walk(Flags {
+    Ok(Flags {
         drops,
         adds,
         next: SlotState::Configured,
@@ -50,16 +37,15 @@ fn flags_of(mem: &[u8], slot: Slot, pointer: u64) -> Plan
 }
 
 // The state comes first. DC=1 drops endpoints 2 to 31, and does not use the pointer.
-fn plan_of(mem: &[u8], slot: Slot, pointer: u64, dc: bool) -> Plan
+fn plan_of(mem: &[u8], slot: Slot, pointer: u64, dc: bool) -> Result<Flags, Refusal>
     requires { is_settled slot.state ≡ true → slot.base + 64 ≤ length mem.now }
     ensures { Plans pointer slot dc mem.now result }
 {
-    let state = slot.state;
-    if !device::is_settled(state) {
-        return Plan::Refused(19);
+    if !device::is_settled(slot.state) {
+        return Err(Refusal::State);
     }
     if dc {
-        return Plan::Walk(Flags {
+        return Ok(Flags {
             drops: 0xffff_ffff,
             adds: 0,
             next: SlotState::Addressed,
@@ -81,24 +67,22 @@ pub fn configure_endpoint(
     ensures { Answers (calls.configure_endpoint id pointer dc) t mem.old result mem.new }
 {
     let flags = match plan_of(mem, slot, pointer, dc) {
-        Plan::Refused(code) => return scan::refused(t, code),
-        Plan::Walk(flags) => flags,
+        Ok(flags) => flags,
+        Err(refusal) => return scan::refuse(t, refusal),
     };
-    let base = slot.base;
-    let next = flags.next;
-    let w = walks::terminate_flagged(t, mem, id, base, flags.drops);
-    let v = walks::add_flagged(w.table, mem, id, pointer, base, flags.adds);
+    let ended = walks::terminate_flagged(t, mem, id, slot.base, flags.drops);
+    let added = walks::add_flagged(ended.table, mem, id, pointer, slot.base, flags.adds);
     outcome::finish(
-        v.table,
+        added.table,
         mem,
         id,
         slot,
-        next,
+        flags.next,
         Tally {
-            launched: v.launched,
-            terminated: w.terminated,
-            port: v.port,
-            stored: w.stored + v.stored,
+            launched: added.launched,
+            terminated: ended.terminated,
+            port: added.port,
+            stored: ended.stored + added.stored,
         },
     )
 }

@@ -8,32 +8,22 @@ ghost use Rattle.commands.specs.Promises.{Carries, Answers, Based, is_settled};
 
 use crate::outcome;
 use crate::outcome::Tally;
-use contexts::Checked;
-use definition::{Outcome, Slot, SlotState, Table};
-
-const FREE: Slot = Slot {
-    state: SlotState::Free,
-    base: 0,
-    entry: 0,
-};
+use definition::{Outcome, Refusal, Slot, SlotState, Table};
 
 // All endpoints are terminated, and the slot is free. The slot state byte is untouched.
 pub fn disable_slot(t: Table, mem: &mut [u8], id: u64, slot: Slot) -> Outcome
     requires { Opened t mem.old id slot }
     ensures { Answers (calls.disable_slot id) t mem.old result mem.new }
 {
-    let base = slot.base;
-    let w = walks::terminate_from(t, mem, id, base, 1);
-    let mut u = w.table;
+    let mut ended = walks::terminate_from(t, mem, id, slot.base, 1);
     let j = (id - 1) as usize;
-    u.slots[j] = FREE;
+    ended.table.slots[j] = Slot::FREE;
     outcome::success(
-        u,
+        ended.table,
         Tally {
-            launched: 0,
-            terminated: w.terminated,
-            port: 0,
-            stored: w.stored,
+            terminated: ended.terminated,
+            stored: ended.stored,
+            ..Tally::NOTHING
         },
     )
 }
@@ -43,32 +33,17 @@ pub fn evaluate_context(t: Table, mem: &[u8], id: u64, slot: Slot, pointer: u64)
     requires { Opened t mem.now id slot }
     ensures { Answers (calls.evaluate_context id pointer) t mem.now result mem.now }
 {
-    let checked = contexts::context_check(mem, pointer);
-    if let Checked::Refused(code) = checked {
-        return scan::refused(t, code);
+    if let Err(refusal) = contexts::context_check(mem, pointer) {
+        return scan::refuse(t, refusal);
     }
-    outcome::success(
-        t,
-        Tally {
-            launched: 0,
-            terminated: 0,
-            port: 0,
-            stored: 0,
-        },
-    )
+    outcome::success(t, Tally::NOTHING)
 }
 
 // Configure Endpoint and Reset Device take a slot in this state.
 pub fn is_settled(state: SlotState) -> bool
     ensures { result ≡ is_settled state }
 {
-    match state {
-        SlotState::Free => false,
-        SlotState::Enabled => false,
-        SlotState::Default => false,
-        SlotState::Addressed => true,
-        SlotState::Configured => true,
-    }
+    matches!(state, SlotState::Addressed | SlotState::Configured)
 }
 
 // Endpoints 2 to 31 are terminated, and the slot goes to its next state.
@@ -77,19 +52,17 @@ pub fn deconfigure(t: Table, mem: &mut [u8], id: u64, slot: Slot, next: SlotStat
     requires rooms { Rooms t id slot.base 2 (length mem.old) }
     ensures { Carries (commands.deconfigure id slot next t) mem.old 0 result mem.new }
 {
-    let base = slot.base;
-    let w = walks::terminate_from(t, mem, id, base, 2);
+    let ended = walks::terminate_from(t, mem, id, slot.base, 2);
     outcome::finish(
-        w.table,
+        ended.table,
         mem,
         id,
         slot,
         next,
         Tally {
-            launched: 0,
-            terminated: w.terminated,
-            port: 0,
-            stored: w.stored,
+            terminated: ended.terminated,
+            stored: ended.stored,
+            ..Tally::NOTHING
         },
     )
 }
@@ -98,10 +71,10 @@ pub fn reset_device(t: Table, mem: &mut [u8], id: u64, slot: Slot) -> Outcome
     requires { Opened t mem.old id slot }
     ensures { Answers (calls.reset_device id) t mem.old result mem.new }
 {
-    let state = slot.state;
-    let settled = is_settled(state);
+    // A name of its own: `must-fail/reset_refuses_all.edit` negates this line, and the test's name in the proof stays.
+    let settled = is_settled(slot.state);
     if !settled {
-        return scan::refused(t, 19);
+        return scan::refuse(t, Refusal::State);
     }
     deconfigure(t, mem, id, slot, SlotState::Default)
 }

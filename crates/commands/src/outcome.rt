@@ -17,6 +17,15 @@ pub struct Tally {
     pub stored: u64,
 }
 
+impl Tally {
+    pub const NOTHING: Tally = Tally {
+        launched: 0,
+        terminated: 0,
+        port: 0,
+        stored: 0,
+    };
+}
+
 // Success, with what was launched, terminated and stored.
 pub fn success(t: Table, tally: Tally) -> Outcome
     ensures { result ≡ tallied t tally }
@@ -24,14 +33,11 @@ pub fn success(t: Table, tally: Tally) -> Outcome
     Outcome {
         table: t,
         answer: Answer {
-            code: 1,
-            slot: 0,
             launched: tally.launched,
             terminated: tally.terminated,
             port: tally.port,
             stored: tally.stored,
-            submit: 0,
-            cancel: 0,
+            ..scan::answer(1)
         },
     }
 }
@@ -60,7 +66,7 @@ pub fn store_slot_state(mem: &mut [u8], base: u64, state: SlotState)
 
 // Slot id goes to its next state: the slot state byte is stored, last of all.
 pub fn finish(
-    t: Table,
+    mut t: Table,
     mem: &mut [u8],
     id: u64,
     slot: Slot,
@@ -71,22 +77,17 @@ pub fn finish(
     requires stored_bound { tally.stored < 65536 }
     ensures { Carries (commands.finish id slot next (walk t tally.launched tally.terminated tally.port)) mem.old tally.stored result mem.new }
 {
-    let base = slot.base;
-    store_slot_state(mem, base, next);
-    let mut u = t;
+    store_slot_state(mem, slot.base, next);
     let j = (id - 1) as usize;
-    u.slots[j] = Slot {
+    t.slots[j] = Slot {
         state: next,
-        base,
-        entry: slot.entry,
+        ..slot
     };
     success(
-        u,
+        t,
         Tally {
-            launched: tally.launched,
-            terminated: tally.terminated,
-            port: tally.port,
             stored: tally.stored + 1,
+            ..tally
         },
     )
 }

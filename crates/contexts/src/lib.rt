@@ -9,25 +9,14 @@ ghost use Rattle.std.specs.Prelude.{◌≡◌};
 ghost use Rattle.contexts.specs.Checks.{Checks};
 ghost use Rattle.contexts.specs.Ranges.{ranges_inside};
 
-use guest::Located;
+use definition::Refusal;
 
-// What the context check finds.
-#[derive(Clone, Copy)]
-pub enum Checked {
-    // The add flags: the type of every endpoint that they add is accepted.
-    Adds(u32),
-    // The code of the first failure: 17 or 193.
-    Refused(u64),
-}
-
-// The context check: the add flags, and the type of each endpoint that they add. Flag 0 checks nothing.
-pub fn context_check(mem: &[u8], pointer: u64) -> Checked
+// The context check: the add flags, and the type of each endpoint that they add. Flag 0 checks nothing. The first failure decides.
+pub fn context_check(mem: &[u8], pointer: u64) -> Result<u32, Refusal>
     ensures { Checks pointer mem.now result }
 {
     let address = guest::address::plus(pointer, 4);
-    let Located::At(at) = guest::address::locate(address, 4, mem.len() as u64) else {
-        return Checked::Refused(193);
-    };
+    let at = guest::address::locate(address, 4, mem.len() as u64).ok_or(Refusal::Outside)?;
     let adds = guest::words::read_u32(mem, at);
     types::check_types(mem, pointer, adds)
 }
@@ -36,14 +25,6 @@ pub fn context_check(mem: &[u8], pointer: u64) -> Checked
 pub fn ranges_inside(length: u64, pointer: u64, base: u64, adds: u32) -> bool
     ensures { result ≡ ranges_inside length pointer base adds }
 {
-    let mut i: u32 = 2;
-    while i < 32 {
-        if guest::bits::flag(adds, i) {
-            if !ranges::both_inside(length, pointer, base, i as u64) {
-                return false;
-            }
-        }
-        i += 1;
-    }
-    true
+    (2..32).all(|i| !guest::bits::flag(adds, i)
+        || ranges::both_inside(length, pointer, base, u64::from(i)))
 }

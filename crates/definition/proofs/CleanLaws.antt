@@ -3,10 +3,11 @@
 use mathlib.Core.Bool.{true, false}
 use mathlib.Core.List.{List, [], ◌∷◌}
 use Prim.Native.Nat.{ℕ}
+use Rattle.guest.specs.Prog.{Prog, Result, ok, refuse, passed}
 use Rattle.guest.specs.Forms.{Firm, Clean}
 use Rattle.guest.proofs.FormLaws.{firm_clean, firm_bind, firm_choose, firm_ok, clean_done, clean_choose, clean_then, clean_firm}
-use Rattle.definition.specs.Types.{Endpoint, Input, Table}
-use Rattle.definition.specs.Steps.{step_by, step}
+use Rattle.definition.specs.Types.{Option, Some, None, Endpoint, Input, Row, Table}
+use Rattle.definition.specs.Steps.{entry, report_of, put_byte, step_by, step}
 use Rattle.definition.specs.Commands as commands
 use Rattle.definition.specs.Commands.{usb_types, endpoint_call, enable_one}
 use Rattle.definition.specs.Calls.{Call, set_limit, set_dcbaap, enable_slot, disable_slot, address_device, configure_endpoint, evaluate_context, reset_device, reset_all, stop_endpoint, reset_endpoint, set_dequeue, doorbell, host_ok, host_stall, host_transaction_error, host_trb_error, meaning}
@@ -18,10 +19,16 @@ use Rattle.definition.proofs.HeadLaws.{slot_clean, endpoint_clean}
 -- ---- no refusal behind a store
 
 step_clean : (e : Endpoint) (i : Input) (at : ℕ) → Clean (step e i at)
-unfolding step step_by Clean Firm
-step_clean e i at =
-    clean_choose _ _ _ tt
-    (clean_choose _ _ _ tt (clean_choose _ _ _ (firm_choose _ _ _ tt tt) (clean_choose _ _ _ tt tt)))
+unfolding step step_by passed Clean Firm
+step_clean e i at = by_entry (entry e.state i)
+  where
+    by_byte : {A : Type 0} (b : Option ℕ) (p : Prog (Result A)) → Firm p → Clean p → Clean (put_byte b at p)
+    by_byte None p f c = c
+    by_byte (Some b) p f c = f
+
+    by_entry : (x : Result Row) → Clean (passed (λ r. step_by r e (report_of i) at) x)
+    by_entry (ok r) = clean_choose _ _ _ tt (by_byte r.byte _ (firm_choose _ _ _ tt tt) (clean_choose _ _ _ tt tt))
+    by_entry (refuse c) = tt
 
 endpoint_call_clean : (a b id i : ℕ) (input : Input) (len : ℕ) (t : Table) → Clean (endpoint_call a b id i input len t)
 unfolding endpoint_call

@@ -5,24 +5,24 @@ use mathlib.Core.Bool.{Bool, true, false}
 use mathlib.Core.List.{List, [], ◌∷◌}
 use Prim.Native.Nat.{ℕ, ◌+◌, ◌≤◌, ◌<◌}
 use native.Mathlib.Omega.{arith}
-use borrow.Author.Tests.{ltb-true, ltb-false}
 use lib.Dec.{lit<, lit≤}
 use lib.ListN.{length}
-use Rattle.guest.specs.Prog.{every, each, need, Mem, Prog, done, get, put, Ran, ran, run, choose, Result, ok, refuse, and_then}
+use Rattle.guest.specs.Prog.{every, each, need, Mem, Prog, done, get, put, Ran, ran, run, choose, Result, ok, refuse, passed, and_then}
 use Rattle.guest.specs.Forms.{Gives}
 use Rattle.guest.proofs.RunLaws.{run_bind, run_done}
 use Rattle.guest.specs.Bytes.{count}
 use Rattle.guest.proofs.ListLaws.{all_of}
 use Rattle.guest.proofs.FormLaws.{clean_refusal, gives_value, gives_done, gives_get, gives_put, gives_choose, gives_need, gives_bind, gives_then, gives_each}
-use Rattle.definition.specs.Types.{Endpoint, Input, SlotState, Free, Enabled, Default, Addressed, Configured, Slot, Table}
+use Rattle.definition.specs.Types.{Option, Some, None, Endpoint, Input, Row, SlotState, Free, Enabled, Default, Addressed, Configured, Slot, Table}
 use Rattle.definition.specs.Table.{with_endpoint, with_slot, with_registers}
-use Rattle.definition.specs.Steps.{Stepped, step_by, step}
+use Rattle.definition.specs.Steps.{Stepped, entry, report_of, put_byte, step_by, step}
 use Rattle.definition.specs.Commands as commands
 use Rattle.definition.specs.Commands.{Told, answer, usb_types, endpoint_call, enable_one, check_type, context_check, on_slot, settled, finish, deconfigure, reconfigure, need_contexts, add, add_all, drop_and_add, freeing, copy_contexts, carry_out, Plan, fresh, again, never}
 use Rattle.definition.specs.Walks.{Walk, begin, terminate, terminate_all, launch, copy_launch}
 use Rattle.definition.specs.Calls.{Call, set_limit, set_dcbaap, enable_slot, disable_slot, address_device, configure_endpoint, evaluate_context, reset_device, reset_all, stop_endpoint, reset_endpoint, set_dequeue, doorbell, host_ok, host_stall, host_transaction_error, host_trb_error, meaning, told, prog}
 use Rattle.definition.proofs.HeadLaws.{slot_gives, endpoint_gives}
 use Rattle.definition.proofs.CleanLaws.{call_clean}
+use Rattle.definition.proofs.EntryLaws.{Answered, entry_answers}
 
 -- ---- the codes: 0 or 1 where a call is carried out, above 1 where it is refused
 
@@ -118,15 +118,21 @@ slot_coded : (n absent : ℕ) (t : Table) (len id : ℕ) (f : Slot → Prog (Res
 unfolding Coded
 slot_coded n absent t len id f h g = slot_gives (Coded (Carried n)) absent t len id f (lit< tt) (lit< tt) h g
 
-step_coded : (e : Endpoint) (i : Input) (at : ℕ) → Gives (Coded (λ (r : Stepped). r.code ≤ 1)) (step e i at)
-unfolding step step_by Coded Gives
-step_coded e i at =
-    let Q = Coded (λ (r : Stepped). r.code ≤ 1) in
-    gives_choose Q _ _ _ (λ h. ltb-true _ _ h)
-    (λ h.
-    let low = ltb-false _ _ h in
-    gives_choose Q _ _ _ (λ _. lit< tt)
-    (λ _. gives_choose Q _ _ _ (λ _. gives_choose Q _ _ _ (λ _. low) (λ _. low)) (λ _. gives_choose Q _ _ _ (λ _. low) (λ _. low))))
+-- a step's answer
+abbrev Low : Result Stepped → Type 0
+Low = Coded (λ (r : Stepped). r.code ≤ 1)
+
+step_coded : (e : Endpoint) (i : Input) (at : ℕ) → Gives Low (step e i at)
+unfolding step step_by passed Coded Gives
+step_coded e i at = by_entry (entry e.state i) (entry_answers e.state i)
+  where
+    by_byte : (b : Option ℕ) (p : Prog (Result Stepped)) → Gives Low p → Gives Low (put_byte b at p)
+    by_byte None p g = g
+    by_byte (Some b) p g = g
+
+    by_entry : (x : Result Row) → Answered x → Gives Low (passed (λ r. step_by r e (report_of i) at) x)
+    by_entry (ok r) h = gives_choose Low _ _ _ (λ _. lit< tt) (λ _. by_byte r.byte _ (gives_choose Low _ _ _ (λ _. h) (λ _. h)))
+    by_entry (refuse c) h = h.0
 
 endpoint_call_coded : (a b id i : ℕ) (input : Input) (len : ℕ) (t : Table) → 1 < a → 1 < b → Gives (Coded (Carried t.length)) (endpoint_call a b id i input len t)
 unfolding endpoint_call with_endpoint Coded
@@ -134,7 +140,7 @@ endpoint_call_coded a b id i input len t h k =
     let P = Carried t.length in
     slot_coded t.length a t len id _ h
     (λ s. endpoint_gives (Coded P) b t id i _ k
-    (λ e. gives_then (Coded (λ (r : Stepped). r.code ≤ 1)) (Coded P) _ _ (step_coded e input _) (λ r l. coded_ok P _ (l, refl)) (λ c l. l)))
+    (λ e. gives_then Low (Coded P) _ _ (step_coded e input _) (λ r l. coded_ok P _ (l, refl)) (λ c l. l)))
 
 enable_coded : (t : Table) (ids : List ℕ) → Gives (Coded (Carried t.length)) (enable_one t ids)
 unfolding enable_one with_slot

@@ -7,7 +7,7 @@ use mathlib.Core.List.{List, [], ◌∷◌, ◌++◌, append-nil}
 use Prim.Native.Nat.{ℕ, ◌+◌, ◌*◌, ◌^◌, ◌≤◌, ◌<◌}
 use native.Mathlib.Nat.{add-zero}
 use native.Mathlib.Omega.{arith}
-use borrow.Author.Tests.{ltb-true, eqb-true, leb-true}
+use borrow.Author.Tests.{eqb-true, leb-true}
 use lib.Dec.{leb, eqb}
 use lib.ListN.{length, drop, length-take}
 use Rattle.guest.specs.Bytes.{count, set_bits, slot_state_byte, number, bytes, ◌⊕◌, pointer_of, cycle_of}
@@ -16,14 +16,15 @@ use Rattle.guest.proofs.ListLaws.{All, and_left, and_right}
 use Rattle.guest.proofs.ReadLaws.{applied, total}
 use Rattle.guest.proofs.SpliceLaws.{block_length, block_other, block_here}
 use Rattle.guest.proofs.StoreLaws.{block_block, Runs, runs_run, store, runs_done, runs_get, runs_put, runs_choose, runs_need, runs_bind, runs_last, Quietly, runs_then, runs_every, runs_map, runs_each, each_from}
-use Rattle.definition.specs.Types.{Endpoint, Waiting, Input, SlotState, Free, Enabled, Default, Addressed, Configured, Slot, Table, Lookup, Used, Nothing}
+use Rattle.definition.specs.Types.{Endpoint, Waiting, Input, Row, SlotState, Free, Enabled, Default, Addressed, Configured, Slot, Table, Option, Some, None}
 use Rattle.definition.specs.Table.{slot_number, is_disabled, disabled, free, endpoint_of, slot_of, with_endpoint, with_slot, lookup, well_formed}
-use Rattle.definition.specs.Steps.{Stepped, entry, step_by, step, launch_at, terminate_at}
+use Rattle.definition.specs.Steps.{Stepped, entry, report_of, put_byte, put_when, step_by, step, launch_at, terminate_at}
 use Rattle.definition.specs.Walks.{Walk, begin, terminate_all, begun, ended, terminate, launch, copy_launch}
 use Rattle.definition.specs.Commands.{formed, lent, found, on_slot, on_endpoint, check_type, context_check, settled, need_contexts, add, add_all, drop_and_add, context_state, walked, finish, deconfigure, reconfigure, carry_out, copy_contexts, fresh, again, plan, freeing, endpoint_call, Told, stepped}
 use Rattle.definition.specs.Calls.{Call, meaning, told, prog}
 use Rattle.definition.specs.Rules.{Opened, Settled, is_addressed, is_configured}
 use Rattle.definition.proofs.TableLaws.{endpoint_back, IsEndpoint}
+use Rattle.definition.proofs.EntryLaws.{Answered, entry_answers}
 
 -- ---- one endpoint
 
@@ -79,17 +80,22 @@ context_stores n c base at b x l g h =
 -- a step stores at most nine bytes, all in the context
 pub step_runs : {m : Mem} {R : List Store → Result Stepped → Type 0} (e : Endpoint) (input : Input) (at : ℕ) → ((c : ℕ) → 2 ≤ c → R [] (refuse c))
     → ((ws : List Store) (r : Stepped) → total ws ≤ 9 → ((a : ℕ) → Touched ws a → Within at 32 a) → R ws (ok r)) → Runs (step e input at) m R
-unfolding step step_by total Touched bytes
-step_runs {m} {R} e input at r f =
-    runs_choose (λ h. runs_done (r _ (ltb-true 1 _ h)))
-    (λ _. runs_choose (λ _. runs_done (r 195 (omega arith)))
-    (λ _. runs_choose
-    (λ _. runs_put (runs_choose
-    (λ _. runs_put (runs_done (f _ _ (omega arith) (λ a. ⊎_elim (λ h. omega arith) (⊎_elim (λ h. omega arith) (λ h. absurd h))))))
-    (λ _. runs_done (f _ _ (omega arith) (λ a. ⊎_elim (λ h. omega arith) (λ h. absurd h))))))
-    (λ _. runs_choose
-    (λ _. runs_put (runs_done (f _ _ (omega arith) (λ a. ⊎_elim (λ h. omega arith) (λ h. absurd h)))))
-    (λ _. runs_done (f _ _ (omega arith) (λ a h. absurd h))))))
+unfolding step step_by passed total Touched bytes
+step_runs {m} {R} e input at r f = by_entry (entry e.state input) (entry_answers e.state input)
+  where
+    by_byte : (b : Option ℕ) (saves : Bool) (word : ℕ) (x : Stepped) → Runs (put_byte b at (put_when saves (at + 8) (bytes 8 word) (done (ok x)))) m R
+    by_byte (Some b) saves word x =
+        runs_put (runs_choose
+        (λ _. runs_put (runs_done (f _ _ (omega arith) (λ a. ⊎_elim (λ h. omega arith) (⊎_elim (λ h. omega arith) (λ h. absurd h))))))
+        (λ _. runs_done (f _ _ (omega arith) (λ a. ⊎_elim (λ h. omega arith) (λ h. absurd h)))))
+    by_byte None saves word x =
+        runs_choose
+        (λ _. runs_put (runs_done (f _ _ (omega arith) (λ a. ⊎_elim (λ h. omega arith) (λ h. absurd h)))))
+        (λ _. runs_done (f _ _ (omega arith) (λ a h. absurd h)))
+
+    by_entry : (x : Result Row) → Answered x → Runs (passed (λ w. step_by w e (report_of input) at) x) m R
+    by_entry (ok w) h = runs_choose (λ _. runs_done (r 195 (omega arith))) (λ _. by_byte w.byte w.saves _ _)
+    by_entry (refuse c) h = runs_done (r c h.0)
 
 -- ---- the checks before a command
 
@@ -108,9 +114,9 @@ module _ {A : Type 0} {m : Mem} {R : List Store → Result A → Type 0} (refuse
   unfolding on_slot
   slot_runs absent some t id f g = formed_runs t (λ w. lent_runs t (length m) (λ e. by w e (lookup t id) refl))
     where
-      by : well_formed t ≡ true → t.length ≡ length m → (l : Lookup) → lookup t id ≡ l → Runs (found l (done (refuse absent)) f) m R
-      by w e (Used s) u = g s (record { formed = w; size = e; used = u })
-      by w e Nothing u = runs_done (refused absent some)
+      by : well_formed t ≡ true → t.length ≡ length m → (l : Option Slot) → lookup t id ≡ l → Runs (found l (done (refuse absent)) f) m R
+      by w e (Some s) u = g s (record { formed = w; size = e; used = u })
+      by w e None u = runs_done (refused absent some)
 
   -- the context check gives the add flags
   pub check_runs : (accepts : ℕ → Bool) (len P : ℕ) (f : ℕ → Prog (Result A)) → Runs (f (number (block m (P ⊕ 4) 4))) m R

@@ -7,15 +7,15 @@ use mathlib.Core.Bool.{Bool, true, false, true≢false}
 use mathlib.Core.List.{List, [], ◌∷◌}
 use Prim.Native.Nat.{ℕ}
 use lib.ListN.{length, get_or}
-use Rattle.guest.specs.Prog.{Mem, Prog, Reads, Writes, Result, and_then}
+use Rattle.guest.specs.Prog.{Mem, Prog, Reads, Writes, Result, ok, refuse, passed, and_then}
 use Rattle.guest.specs.Forms.{Blind}
 use Rattle.guest.specs.Trace.{Event, Left, course, left, Named, NamedFirst, SameCourse}
 use Rattle.guest.proofs.ReadLaws.{reads_done, reads_bind, reads_then, bind_reads, Seen, seen_first}
 use Rattle.guest.proofs.FormLaws.{blind_reads, blind_done, blind_choose, blind_bind, blind_then, blind_each, quiet_stores}
 use Rattle.guest.proofs.TraceLaws.{same_acts, same_course, same_course_first}
-use Rattle.definition.specs.Types.{Endpoint, Input, Slot, Table, Answer, Outcome}
+use Rattle.definition.specs.Types.{Option, Some, None, Endpoint, Input, Row, Slot, Table, Answer, Outcome}
 use Rattle.definition.specs.Table.{fresh_table}
-use Rattle.definition.specs.Steps.{step_by, step}
+use Rattle.definition.specs.Steps.{entry, report_of, put_byte, step_by, step}
 use Rattle.definition.specs.Commands as commands
 use Rattle.definition.specs.Commands.{Told, usb_types, endpoint_call, enable_one}
 use Rattle.definition.specs.Calls.{Call, set_limit, set_dcbaap, enable_slot, disable_slot, address_device, configure_endpoint, evaluate_context, reset_device, reset_all, stop_endpoint, reset_endpoint, set_dequeue, doorbell, host_ok, host_stall, host_transaction_error, host_trb_error, meaning, prog, counted, Meets}
@@ -29,8 +29,16 @@ use Rattle.definition.proofs.HeadLaws.{slot_reads, slot_opens, slot_blind, endpo
 -- ---- "All other calls: nothing"
 
 step_blind : (e : Endpoint) (i : Input) (at : ℕ) → Blind (step e i at)
-unfolding step step_by Blind
-step_blind e i at = blind_choose _ _ _ tt (blind_choose _ _ _ tt (blind_choose _ _ _ (blind_choose _ _ _ tt tt) (blind_choose _ _ _ tt tt)))
+unfolding step step_by passed Blind
+step_blind e i at = by_entry (entry e.state i)
+  where
+    by_byte : {A : Type 0} (b : Option ℕ) (p : Prog A) → Blind p → Blind (put_byte b at p)
+    by_byte None p h = h
+    by_byte (Some b) p h = h
+
+    by_entry : (x : Result Row) → Blind (passed (λ r. step_by r e (report_of i) at) x)
+    by_entry (ok r) = blind_choose _ _ _ tt (by_byte r.byte _ (blind_choose _ _ _ tt tt))
+    by_entry (refuse c) = tt
 
 endpoint_call_blind : (a b id i : ℕ) (input : Input) (len : ℕ) (t : Table) → Blind (endpoint_call a b id i input len t)
 unfolding endpoint_call

@@ -10,11 +10,11 @@ use borrow.Author.Tests.{leb-true, eqb-true, not-true}
 use lib.Dec.{leb, eqb}
 use lib.ListN.{length, get_or, get_or-eq_default}
 use Rattle.guest.specs.Bytes.{inside, count}
-use Rattle.guest.specs.Prog.{Mem, done, put, choose, Store, stores, all, ok}
+use Rattle.guest.specs.Prog.{Mem, done, put, choose, passed, Store, stores, all, ok}
 use Rattle.guest.proofs.ListLaws.{All, all_at, and_left, and_right, count_all, all_head}
 use Rattle.guest.proofs.RunLaws.{inside_yes}
 use Rattle.guest.proofs.StoreLaws.{runs_last}
-use Rattle.definition.specs.Types.{EndpointState, Disabled, Waiting, InFlight, Halted, Error, StoppedContinuable, Stopped, Endpoint, SlotState, Free, Enabled, Default, Addressed, Configured, Slot, Table, Used, Nothing, Terminate}
+use Rattle.definition.specs.Types.{EndpointState, Disabled, Waiting, InFlight, Halted, Error, StoppedContinuable, Stopped, Endpoint, SlotState, Free, Enabled, Default, Addressed, Configured, Slot, Table, Some, None, Terminate}
 use Rattle.definition.specs.Table.{endpoint_number, is_disabled, is_free, disabled, free, endpoint_of, slot_of, lookup, is_zero, endpoint_ok, used_ok, no_endpoint, slot_ok_in, slot_ok, well_formed}
 use Rattle.definition.specs.Steps.{end, entry, Stepped, step_by, step, terminate_at}
 use Rattle.definition.specs.Walks.{Walk}
@@ -49,17 +49,17 @@ pub record Ended (e : Endpoint) (at : ℕ) : Type 0 where
 
 -- an endpoint in any of the six states
 pub terminate_ends : (e : Endpoint) (at : ℕ) → is_disabled e ≡ false → Ended e at
-unfolding step step_by terminate_at choose
+unfolding step step_by passed terminate_at choose
 terminate_ends e at h = record { by_step = rw (terminate_entry e.state h); by_command = rw h }
 
 -- ---- a slot in use
 
 -- what a lookup found
-pub used_slot : (t : Table) (id : ℕ) (s : Slot) → lookup t id ≡ Used s → (slot_of t id ≡ s) × IsSlot id × (is_free s ≡ false)
+pub used_slot : (t : Table) (id : ℕ) (s : Slot) → lookup t id ≡ Some s → (slot_of t id ≡ s) × IsSlot id × (is_free s ≡ false)
 unfolding lookup
 used_slot t id s u = by (leb 1 id && leb id 16) (not (is_free (slot_of t id))) refl refl u
   where
-    by : (a b : Bool) → (leb 1 id && leb id 16) ≡ a → not (is_free (slot_of t id)) ≡ b → cond (a && b) (Used (slot_of t id)) Nothing ≡ Used s
+    by : (a b : Bool) → (leb 1 id && leb id 16) ≡ a → not (is_free (slot_of t id)) ≡ b → cond (a && b) (Some (slot_of t id)) None ≡ Some s
         → (slot_of t id ≡ s) × IsSlot id × (is_free s ≡ false)
     by true true e d u =
         let same : slot_of t id ≡ s = cc in (

@@ -12,7 +12,7 @@ use Rattle.guest.specs.Forms.{Gives}
 use Rattle.guest.proofs.ListLaws.{and_left, and_right}
 use Rattle.guest.proofs.RunLaws.{refuse_ok}
 use Rattle.guest.proofs.FormLaws.{gives_choose, gives_need, gives_every}
-use Rattle.definition.specs.Types.{Endpoint, SlotState, Free, Enabled, Default, Addressed, Configured, Slot, Table, Used, Nothing}
+use Rattle.definition.specs.Types.{Endpoint, SlotState, Free, Enabled, Default, Addressed, Configured, Slot, Table, Some, None}
 use Rattle.definition.specs.Table.{is_disabled, is_free, endpoint_of, slot_of, lookup, well_formed}
 use Rattle.definition.specs.Commands.{Told, formed, lent, found, on_slot, on_endpoint, check_type, context_check, settled}
 use Rattle.definition.proofs.TableLaws.{IsSlot, IsEndpoint}
@@ -45,7 +45,7 @@ slot_fine absent t len id f n p g = formed_fine t _ p (lent_fine t len _ (λ e. 
     test : Bool
     test = leb 1 id && leb id 16 && not (is_free (slot_of t id))
 
-    by : t.length ≡ len → (b : Bool) → test ≡ b → Gives Fine (found (cond b (Used (slot_of t id)) Nothing) (done (refuse absent)) f)
+    by : t.length ≡ len → (b : Bool) → test ≡ b → Gives Fine (found (cond b (Some (slot_of t id)) None) (done (refuse absent)) f)
     by e true h =
         let both = and_left (leb 1 id && leb id 16) _ h in
         g (leb-true _ _ (and_left (leb 1 id) _ both), leb-true _ _ (and_right (leb 1 id) _ both)) e

@@ -10,7 +10,7 @@ use Rattle.guest.specs.Forms.{Blind, Clean, Gives}
 use Rattle.guest.proofs.RunLaws.{choose_yes}
 use Rattle.guest.proofs.ReadLaws.{reads_done, reads_choose}
 use Rattle.guest.proofs.FormLaws.{blind_choose, clean_choose, gives_choose}
-use Rattle.definition.specs.Types.{Endpoint, Slot, Table, Lookup, Used, Nothing}
+use Rattle.definition.specs.Types.{Endpoint, Slot, Table, Option, Some, None}
 use Rattle.definition.specs.Table.{lookup}
 use Rattle.definition.specs.Commands.{formed, lent, found, on_slot, on_endpoint}
 use Rattle.definition.specs.Rules.{Opened}
@@ -18,9 +18,9 @@ use Rattle.definition.specs.Rules.{Opened}
 module _ {A : Type 0} where
   -- ---- what is read past them
 
-  found_reads : (l : Lookup) (c : ℕ) (f : Slot → Prog (Result A)) (m : Mem) (a : ℕ) → Reads (found l (done (refuse c)) f) m a → (s : Slot) × (l ≡ Used s) × Reads (f s) m a
-  found_reads (Used s) c f m a r = (s, refl, r)
-  found_reads Nothing c f m a r = absurd (reads_done _ m a r)
+  found_reads : (l : Option Slot) (c : ℕ) (f : Slot → Prog (Result A)) (m : Mem) (a : ℕ) → Reads (found l (done (refuse c)) f) m a → (s : Slot) × (l ≡ Some s) × Reads (f s) m a
+  found_reads (Some s) c f m a r = (s, refl, r)
+  found_reads None c f m a r = absurd (reads_done _ m a r)
 
   pub slot_reads : (absent : ℕ) (t : Table) (id : ℕ) (f : Slot → Prog (Result A)) (m : Mem) (a : ℕ) → Reads (on_slot absent t (length m) id f) m a
       → (s : Slot) × Opened t m id s × Reads (f s) m a
@@ -41,14 +41,14 @@ module _ {A : Type 0} where
   pub slot_opens : (absent : ℕ) (t : Table) (id : ℕ) (f : Slot → Prog (Result A)) (m : Mem) (s : Slot) → Opened t m id s → on_slot absent t (length m) id f ≡ f s
   unfolding on_slot formed lent
   slot_opens absent t id f m s o =
-      choose_yes _ _ _ o.formed ∙ choose_yes _ _ _ (eq-eqb _ _ o.size) ∙ ap (λ (l : Lookup). found l (done (refuse absent)) f) o.used
+      choose_yes _ _ _ o.formed ∙ choose_yes _ _ _ (eq-eqb _ _ o.size) ∙ ap (λ (l : Option Slot). found l (done (refuse absent)) f) o.used
 
   -- ---- what each way has, the whole has
 
-  found_blind : (l : Lookup) (c : ℕ) (f : Slot → Prog (Result A)) → ((s : Slot) → Blind (f s)) → Blind (found l (done (refuse c)) f)
+  found_blind : (l : Option Slot) (c : ℕ) (f : Slot → Prog (Result A)) → ((s : Slot) → Blind (f s)) → Blind (found l (done (refuse c)) f)
   unfolding Blind
-  found_blind (Used s) c f b = b s
-  found_blind Nothing c f b = tt
+  found_blind (Some s) c f b = b s
+  found_blind None c f b = tt
 
   pub slot_blind : (absent : ℕ) (t : Table) (len id : ℕ) (f : Slot → Prog (Result A)) → ((s : Slot) → Blind (f s)) → Blind (on_slot absent t len id f)
   unfolding on_slot formed lent Blind
@@ -58,10 +58,10 @@ module _ {A : Type 0} where
   unfolding on_endpoint Blind
   endpoint_blind absent t id i f b = blind_choose _ _ _ (b _) tt
 
-  found_clean : (l : Lookup) (c : ℕ) (f : Slot → Prog (Result A)) → ((s : Slot) → Clean (f s)) → Clean (found l (done (refuse c)) f)
+  found_clean : (l : Option Slot) (c : ℕ) (f : Slot → Prog (Result A)) → ((s : Slot) → Clean (f s)) → Clean (found l (done (refuse c)) f)
   unfolding Clean
-  found_clean (Used s) c f b = b s
-  found_clean Nothing c f b = tt
+  found_clean (Some s) c f b = b s
+  found_clean None c f b = tt
 
   pub slot_clean : (absent : ℕ) (t : Table) (len id : ℕ) (f : Slot → Prog (Result A)) → ((s : Slot) → Clean (f s)) → Clean (on_slot absent t len id f)
   unfolding on_slot formed lent Clean
@@ -72,10 +72,10 @@ module _ {A : Type 0} where
   endpoint_clean absent t id i f b = clean_choose _ _ _ (b _) tt
 
   module _ (P : Result A → Type 0) where
-    found_gives : (l : Lookup) (c : ℕ) (f : Slot → Prog (Result A)) → P (refuse c) → ((s : Slot) → Gives P (f s)) → Gives P (found l (done (refuse c)) f)
+    found_gives : (l : Option Slot) (c : ℕ) (f : Slot → Prog (Result A)) → P (refuse c) → ((s : Slot) → Gives P (f s)) → Gives P (found l (done (refuse c)) f)
     unfolding Gives
-    found_gives (Used s) c f r b = b s
-    found_gives Nothing c f r b = r
+    found_gives (Some s) c f r b = b s
+    found_gives None c f r b = r
 
     pub slot_gives : (absent : ℕ) (t : Table) (len id : ℕ) (f : Slot → Prog (Result A)) → P (refuse 198) → P (refuse 194) → P (refuse absent)
         → ((s : Slot) → Gives P (f s)) → Gives P (on_slot absent t len id f)

@@ -1,4 +1,6 @@
+pub mod RefusalLaws
 pub mod TableLaws
+pub mod EntryLaws
 pub mod CheckLaws
 pub mod PieceLaws
 pub mod AddressLaws

@@ -2,7 +2,7 @@
 -- Assumes nothing.
 use Rattle.std.specs.Prelude.{◌≡◌, Bool, cond, ℕ, leb}
 use Rattle.guest.specs.Prog.{Mem, Prog, done, bind, run, Result, ok, refuse}
-use Rattle.definition.specs.Types.{Dequeue, Look, Given, Doorbell, Stop, Reset, SetDequeue, Ok, Stall, TransactionError, TrbError, Table, Answer, Outcome}
+use Rattle.definition.specs.Types.{Dequeue, Look, Option, Doorbell, Stop, Reset, SetDequeue, Ok, Stall, TransactionError, TrbError, Table, Answer, Outcome}
 use Rattle.definition.specs.Table.{fresh_table}
 use Rattle.definition.specs.Commands as commands
 use Rattle.definition.specs.Commands.{Told, answer, usb_types, endpoint_call}
@@ -23,8 +23,8 @@ pub data Call : Type 0 where
   set_dequeue : ℕ → ℕ → Dequeue → Call
   doorbell : ℕ → ℕ → Look → Call
   host_ok : ℕ → ℕ → Look → Call
-  host_stall : ℕ → ℕ → Given → Call
-  host_transaction_error : ℕ → ℕ → Given → Call
+  host_stall : ℕ → ℕ → Option Dequeue → Call
+  host_transaction_error : ℕ → ℕ → Option Dequeue → Call
   host_trb_error : ℕ → ℕ → Call
 
 -- what a call does with a table over a memory of len bytes, or the code of its refusal

@@ -3,7 +3,7 @@
 use Rattle.std.specs.Prelude.{Bool, true, false, not, cond, ◌&&◌, ◌||◌, List, [], ◌∷◌, ℕ, ◌+◌, ◌*◌, leb, eqb}
 use Rattle.guest.specs.Bytes.{number, ◌⊕◌, count, those, set_bits, type_of, slot_state_byte}
 use Rattle.guest.specs.Prog.{Prog, done, get, put, choose, bind, each, Result, ok, refuse, need, and_then, every}
-use Rattle.definition.specs.Types.{Endpoint, Input, SlotState, Free, Enabled, Default, Addressed, Configured, Slot, Table, Lookup, Used, Nothing, Answer}
+use Rattle.definition.specs.Types.{Endpoint, Input, SlotState, Free, Enabled, Default, Addressed, Configured, Slot, Table, Option, Some, None, Answer}
 use Rattle.definition.specs.Table.{is_disabled, is_free, free, endpoint_of, slot_of, with_endpoint, with_slot, with_registers, lookup, well_formed}
 use Rattle.definition.specs.Steps.{Stepped, step}
 use Rattle.definition.specs.Walks.{Walk, begin, terminate, terminate_all, copy_launch}
@@ -36,9 +36,9 @@ formed t p = choose (well_formed t) p (done (refuse 198))
 unfoldable pub lent : {A : Type 0} → Table → ℕ → Prog (Result A) → Prog (Result A)
 lent t len p = choose (eqb t.length len) p (done (refuse 194))
 
-abbrev pub found : {A : Type 0} → Lookup → Prog (Result A) → (Slot → Prog (Result A)) → Prog (Result A)
-found (Used s) none f = f s
-found Nothing none f = none
+abbrev pub found : {A : Type 0} → Option Slot → Prog (Result A) → (Slot → Prog (Result A)) → Prog (Result A)
+found (Some s) none f = f s
+found None none f = none
 
 -- a command on a slot in use; `absent` is the code where there is none
 unfoldable pub on_slot : {A : Type 0} → ℕ → Table → ℕ → ℕ → (Slot → Prog (Result A)) → Prog (Result A)

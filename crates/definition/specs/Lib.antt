@@ -1,4 +1,5 @@
 pub mod Types
+pub mod Refusals
 pub mod Table
 pub mod Steps
 pub mod Walks

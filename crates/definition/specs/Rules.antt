@@ -4,7 +4,7 @@
 use Rattle.std.specs.Prelude.{◌≡◌, Bool, true, false, ℕ, ◌+◌, ◌*◌, ◌%◌, ◌^◌, ◌≤◌, ◌<◌, T, length}
 use Rattle.guest.specs.Bytes.{number, bit, type_of}
 use Rattle.guest.specs.Prog.{Mem, block, Within}
-use Rattle.definition.specs.Types.{SlotState, Enabled, Default, Addressed, Configured, Slot, Table, Used}
+use Rattle.definition.specs.Types.{SlotState, Enabled, Default, Addressed, Configured, Slot, Table, Some}
 use Rattle.definition.specs.Table.{lookup, well_formed}
 use Rattle.definition.specs.Commands.{usb_types}
 use Rattle.definition.specs.Calls.{Call, set_limit, set_dcbaap, enable_slot, disable_slot, address_device, configure_endpoint, evaluate_context, reset_device, reset_all, stop_endpoint, reset_endpoint, set_dequeue, doorbell, host_ok, host_stall, host_transaction_error, host_trb_error}
@@ -79,7 +79,7 @@ pub data ConfigureNamed (accepts : ℕ → Bool) (P : ℕ) (s : Slot) (m : Mem) 
 pub record Opened (t : Table) (m : Mem) (id : ℕ) (s : Slot) : Type 0 where
   pub formed : well_formed t ≡ true
   pub size : t.length ≡ length m
-  pub used : lookup t id ≡ Used s
+  pub used : lookup t id ≡ Some s
 
 -- "Evaluate: flags and type bytes. All other calls: nothing."
 unfoldable pub named : Call → Table → Mem → ℕ → Type 0

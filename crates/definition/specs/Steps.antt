@@ -1,64 +1,58 @@
 -- The endpoint steps: what each input does to an endpoint, in memory and in its record. Launch and terminate of one endpoint.
 -- Assumes nothing.
-use Rattle.std.specs.Prelude.{Bool, true, false, not, cond, ◌&&◌, List, [], ◌∷◌, ℕ, ◌+◌, ◌-◌, ◌%◌, eqb, ltb, get_or}
+use Rattle.std.specs.Prelude.{Bool, true, false, not, cond, ◌&&◌, List, [], ◌∷◌, ℕ, ◌+◌, ◌-◌, ◌%◌, eqb, get_or, unwrap_or, option_map}
 use Rattle.guest.specs.Bytes.{number, bytes, pointer_of, cycle_of}
-use Rattle.guest.specs.Prog.{Prog, done, get, put, choose, Result, ok, refuse}
-use Rattle.definition.specs.Types.{EndpointState, Disabled, Waiting, InFlight, Halted, Error, StoppedContinuable, Stopped, Endpoint, Given, At, Nowhere, Input, Doorbell, Stop, Reset, SetDequeue, Terminate, Ok, Stall, TransactionError, TrbError, Report, Row}
+use Rattle.guest.specs.Prog.{Prog, done, get, put, choose, Result, ok, refuse, passed}
+use Rattle.definition.specs.Types.{EndpointState, Disabled, Waiting, InFlight, Halted, Error, StoppedContinuable, Stopped, Endpoint, Option, Some, None, Dequeue, Look, Input, Doorbell, Stop, Reset, SetDequeue, Terminate, Ok, Stall, TransactionError, TrbError, Row}
 use Rattle.definition.specs.Table.{endpoint_number, is_disabled, disabled}
 
 -- ---- the entries
 
--- nothing happens, and this is the answer
-abbrev pub stays : ℕ → Row
-stays c =
-    record { code = c; moves = false; next = Disabled; stores = false; byte = 0; takes = false; looks = false; saves = false; cancels = false }
-
 -- "Unlisted: command 19, doorbell 0 with no effect, host event 196"
-abbrev pub wrong : Row
-wrong = stays 19
+abbrev pub wrong : Result Row
+wrong = refuse 19
 
-abbrev pub idle : Row
-idle = stays 0
+abbrev pub idle : Result Row
+idle = ok (record { code = 0; next = None; byte = None; takes = false; looks = false; saves = false; cancels = false })
 
-abbrev pub stray : Row
-stray = stays 196
+abbrev pub stray : Result Row
+stray = refuse 196
 
 -- "take its pointer and cycle; found gives In flight and submit, else Waiting"
-abbrev pub look : Row
-look = record { code = 0; moves = true; next = Waiting; stores = false; byte = 0; takes = true; looks = true; saves = false; cancels = false }
+abbrev pub look : Result Row
+look = ok (record { code = 0; next = Some Waiting; byte = None; takes = true; looks = true; saves = false; cancels = false })
 
 -- "byte 1; look"
-abbrev pub resume : Row
-resume = record { code = 0; moves = true; next = Waiting; stores = true; byte = 1; takes = true; looks = true; saves = false; cancels = false }
+abbrev pub resume : Result Row
+resume = ok (record { code = 0; next = Some Waiting; byte = Some 1; takes = true; looks = true; saves = false; cancels = false })
 
 -- "byte 3, save; Stopped"
-abbrev pub stop : Row
-stop = record { code = 1; moves = true; next = Stopped; stores = true; byte = 3; takes = false; looks = false; saves = true; cancels = false }
+abbrev pub stop : Result Row
+stop = ok (record { code = 1; next = Some Stopped; byte = Some 3; takes = false; looks = false; saves = true; cancels = false })
 
 -- "byte 3, save, cancel; Stopped-continuable"
-abbrev pub break_off : Row
-break_off =
-    record { code = 1; moves = true; next = StoppedContinuable; stores = true; byte = 3; takes = false; looks = false; saves = true; cancels = true }
+abbrev pub break_off : Result Row
+break_off = ok (record { code = 1; next = Some StoppedContinuable; byte = Some 3; takes = false; looks = false; saves = true; cancels = true })
 
 -- "take the pointer if given; byte 2, save; Halted"
-abbrev pub halt : Row
-halt = record { code = 0; moves = true; next = Halted; stores = true; byte = 2; takes = true; looks = false; saves = true; cancels = false }
+abbrev pub halt : Result Row
+halt = ok (record { code = 0; next = Some Halted; byte = Some 2; takes = true; looks = false; saves = true; cancels = false })
 
 -- "byte 4, save; Error"
-abbrev pub fail : Row
-fail = record { code = 0; moves = true; next = Error; stores = true; byte = 4; takes = false; looks = false; saves = true; cancels = false }
+abbrev pub fail : Result Row
+fail = ok (record { code = 0; next = Some Error; byte = Some 4; takes = false; looks = false; saves = true; cancels = false })
 
 -- "byte 3, take, save; Stopped"
-abbrev pub aim : Row
-aim = record { code = 1; moves = true; next = Stopped; stores = true; byte = 3; takes = true; looks = false; saves = true; cancels = false }
+abbrev pub aim : Result Row
+aim = ok (record { code = 1; next = Some Stopped; byte = Some 3; takes = true; looks = false; saves = true; cancels = false })
 
 -- "Terminate works in all": byte 0; the record becomes all zero
-abbrev pub end : Row
-end = record { code = 1; moves = true; next = Disabled; stores = true; byte = 0; takes = true; looks = false; saves = false; cancels = false }
+abbrev pub end : Result Row
+end = ok (record { code = 1; next = Some Disabled; byte = Some 0; takes = true; looks = false; saves = false; cancels = false })
 
 -- "Six resting states, nine inputs: these fifty-four entries are one fixed table."
 -- Doorbell, Stop, Reset, Set Dequeue, Terminate, Ok, Stall, Transaction Error, TRB Error
-abbrev pub steps : List (List Row)
+abbrev pub steps : List (List (Result Row))
 steps =
     -- Waiting
     (look ∷ stop ∷ wrong ∷ wrong ∷ end ∷ stray ∷ stray ∷ stray ∷ stray ∷ [])
@@ -86,50 +80,60 @@ column (TransactionError g) = 7
 column TrbError = 8
 
 -- the entry for an enabled endpoint's state and an input
-unfoldable pub entry : EndpointState → Input → Row
+unfoldable pub entry : EndpointState → Input → Result Row
 entry s i = get_or (get_or steps (endpoint_number s - 1) []) (column i) wrong
 
--- ---- what an input brings
+-- ---- what an input brings: a place, if one is given, and whether a TRB was found there
 
-abbrev pub nothing : Report
-nothing = record { given = false; found = false; pointer = 0; cycle = false }
+-- a place without a look
+abbrev pub unlooked : Dequeue → Look
+unlooked d = record { found = false; pointer = d.pointer; cycle = d.cycle }
 
-abbrev pub given_by : Given → Report
-given_by (At d) = record { given = true; found = false; pointer = d.pointer; cycle = d.cycle }
-given_by Nowhere = nothing
-
-abbrev pub report_of : Input → Report
-report_of (Doorbell l) = record { given = true; found = l.found; pointer = l.pointer; cycle = l.cycle }
-report_of Stop = nothing
-report_of Reset = nothing
-report_of (SetDequeue d) = record { given = true; found = false; pointer = d.pointer; cycle = d.cycle }
-report_of Terminate = record { given = true; found = false; pointer = 0; cycle = false }
-report_of (Ok l) = record { given = true; found = l.found; pointer = l.pointer; cycle = l.cycle }
-report_of (Stall g) = given_by g
-report_of (TransactionError g) = given_by g
-report_of TrbError = nothing
+-- Terminate brings place 0: the record of a disabled endpoint is all zero
+abbrev pub report_of : Input → Option Look
+report_of (Doorbell l) = Some l
+report_of Stop = None
+report_of Reset = None
+report_of (SetDequeue d) = Some (unlooked d)
+report_of Terminate = Some (unlooked (record { pointer = 0; cycle = false }))
+report_of (Ok l) = Some l
+report_of (Stall g) = option_map unlooked g
+report_of (TransactionError g) = option_map unlooked g
+report_of TrbError = None
 
 -- ---- a step
 
+-- the place that the step takes
+abbrev pub taken : Row → Option Look → Option Look
+taken r p = cond r.takes p None
+
+abbrev pub has_trb : Option Look → Bool
+has_trb None = false
+has_trb (Some l) = l.found
+
 -- a look that found a TRB
-abbrev pub submits : Row → Report → Bool
-submits r p = r.looks && p.found
+abbrev pub submits : Row → Option Look → Bool
+submits r p = r.looks && has_trb p
+
+abbrev pub unaligned : Option Look → Bool
+unaligned None = false
+unaligned (Some l) = not (eqb (l.pointer % 16) 0)
 
 -- "where the step uses it, not a multiple of 16"
-abbrev pub misaligned : Row → Report → Bool
-misaligned r p = r.takes && p.given && not (eqb (p.pointer % 16) 0)
+abbrev pub misaligned : Row → Option Look → Bool
+misaligned r p = unaligned (taken r p)
 
-abbrev pub next_state : Row → EndpointState → Report → EndpointState
-next_state r s p = cond (submits r p) InFlight (cond r.moves r.next s)
+abbrev pub next_state : Row → EndpointState → Option Look → EndpointState
+next_state r s p = cond (submits r p) InFlight (unwrap_or r.next s)
+
+-- the record in the state s, at the place that is taken, or else where it was
+abbrev pub placed : EndpointState → Endpoint → Option Look → Endpoint
+placed s e None = record { state = s; cycle = e.cycle; pointer = e.pointer }
+placed s e (Some l) = record { state = s; cycle = l.cycle; pointer = l.pointer }
 
 -- the record after the step
-abbrev pub moved : Row → Endpoint → Report → Endpoint
-moved r e p =
-    record {
-      state = next_state r e.state p;
-      cycle = cond (r.takes && p.given) p.cycle e.cycle;
-      pointer = cond (r.takes && p.given) p.pointer e.pointer;
-    }
+abbrev pub moved : Row → Endpoint → Option Look → Endpoint
+moved r e p = placed (next_state r e.state p) e (taken r p)
 
 -- the dequeue word: "pointer plus cycle"
 abbrev pub word_of : Endpoint → ℕ
@@ -142,20 +146,24 @@ pub record Stepped : Type 0 where
   pub submit : Bool
   pub cancel : Bool
 
+abbrev pub put_byte : {A : Type 0} → Option ℕ → ℕ → Prog A → Prog A
+put_byte None a p = p
+put_byte (Some b) a p = put a (b ∷ []) p
+
 abbrev pub put_when : {A : Type 0} → Bool → ℕ → List ℕ → Prog A → Prog A
 put_when b a bs p = choose b (put a bs p) p
 
--- "State is judged before alignment"; then the state byte, and the "save" at context+8, of the endpoint whose context is at `at`
-unfoldable pub step_by : Row → Endpoint → Report → ℕ → Prog (Result Stepped)
+-- by an entry: the alignment is judged; then the state byte, and the "save" at context+8, of the endpoint whose context is at `at`
+unfoldable pub step_by : Row → Endpoint → Option Look → ℕ → Prog (Result Stepped)
 step_by r e p at =
-    choose (ltb 1 r.code) (done (refuse r.code))
-    (choose (misaligned r p) (done (refuse 195))
-    (put_when r.stores at (r.byte ∷ [])
+    choose (misaligned r p) (done (refuse 195))
+    (put_byte r.byte at
     (put_when r.saves (at + 8) (bytes 8 (word_of (moved r e p)))
-    (done (ok (record { endpoint = moved r e p; code = r.code; submit = submits r p; cancel = r.cancels }))))))
+    (done (ok (record { endpoint = moved r e p; code = r.code; submit = submits r p; cancel = r.cancels })))))
 
+-- "State is judged before alignment"
 unfoldable pub step : Endpoint → Input → ℕ → Prog (Result Stepped)
-step e i at = step_by (entry e.state i) e (report_of i) at
+step e i at = passed (λ r. step_by r e (report_of i) at) (entry e.state i)
 
 -- ---- launch and terminate of the endpoint whose context is at `at`
 

@@ -3,7 +3,7 @@
 use Rattle.std.specs.Prelude.{Bool, false, not, cond, ◌&&◌, ℕ, ◌+◌, ◌-◌, ◌*◌, ◌%◌, leb, eqb, get_or, set, replicate}
 use Rattle.guest.specs.Bytes.{◌⊕◌, inside, count}
 use Rattle.guest.specs.Prog.{all}
-use Rattle.definition.specs.Types.{EndpointState, Disabled, Waiting, InFlight, Halted, Error, StoppedContinuable, Stopped, Endpoint, SlotState, Free, Enabled, Default, Addressed, Configured, Slot, Table, Lookup, Used, Nothing}
+use Rattle.definition.specs.Types.{EndpointState, Disabled, Waiting, InFlight, Halted, Error, StoppedContinuable, Stopped, Endpoint, SlotState, Free, Enabled, Default, Addressed, Configured, Slot, Table, Option, Some, None}
 
 -- ---- numbers of the states
 
@@ -64,8 +64,8 @@ unfoldable pub fresh_table : ℕ → Table
 fresh_table len = record { limit = 0; length = len; dcbaap = 0; slots = replicate 16 free; endpoints = replicate 496 disabled }
 
 -- the slot, unless its id is 0, above 16, or free
-unfoldable pub lookup : Table → ℕ → Lookup
-lookup t id = cond (leb 1 id && leb id 16 && not (is_free (slot_of t id))) (Used (slot_of t id)) Nothing
+unfoldable pub lookup : Table → ℕ → Option Slot
+lookup t id = cond (leb 1 id && leb id 16 && not (is_free (slot_of t id))) (Some (slot_of t id)) None
 
 -- ---- well formed
 

@@ -1,10 +1,15 @@
-// The types of the slot table, its calls and their answers. Nothing here runs: specs/ says what each call means.
+// The types of the slot table, its calls and their answers. No call runs here: specs/ says what each means.
 #![tactic(auto)]
+
+ghost use Rattle.std.specs.Prelude.{eqb, ◌≡◌};
+ghost use Rattle.definition.specs.Table as tables;
+ghost use Rattle.definition.specs.Refusals.{code_of};
+ghost use Rattle.definition.specs.Steps.{unlooked};
 
 // ---- the table
 
 // Disabled, and the six states in which an endpoint rests.
-#[derive(Clone, Copy)]
+#[derive(Clone, Copy, Debug, PartialEq, Eq)]
 pub enum EndpointState {
     Disabled,
     Waiting,
@@ -15,15 +20,37 @@ pub enum EndpointState {
     Stopped,
 }
 
+impl EndpointState {
+    pub fn number(self) -> u8
+        ensures { result ≡ tables.endpoint_number self }
+    {
+        self as u8
+    }
+}
+
 // An endpoint: its state, and its place on the transfer ring.
-#[derive(Clone, Copy)]
+#[derive(Clone, Copy, Debug, PartialEq, Eq)]
 pub struct Endpoint {
     pub state: EndpointState,
     pub cycle: bool,
     pub pointer: u64,
 }
 
-#[derive(Clone, Copy)]
+impl Endpoint {
+    pub const DISABLED: Endpoint = Endpoint {
+        state: EndpointState::Disabled,
+        cycle: false,
+        pointer: 0,
+    };
+
+    pub fn is_disabled(self) -> bool
+        ensures { result ≡ tables.is_disabled self }
+    {
+        self.state == EndpointState::Disabled
+    }
+}
+
+#[derive(Clone, Copy, Debug, PartialEq, Eq)]
 pub enum SlotState {
     Free,
     Enabled,
@@ -32,12 +59,40 @@ pub enum SlotState {
     Configured,
 }
 
+impl SlotState {
+    pub fn number(self) -> u8
+        ensures { result ≡ tables.slot_number self }
+    {
+        self as u8
+    }
+
+    pub fn is_free(self) -> bool
+        ensures { result ≡ eqb (tables.slot_number self) 0 }
+    {
+        self == SlotState::Free
+    }
+}
+
 // A slot: its state, the base of its device context, the address of its DCBAA entry.
-#[derive(Clone, Copy)]
+#[derive(Clone, Copy, Debug, PartialEq, Eq)]
 pub struct Slot {
     pub state: SlotState,
     pub base: u64,
     pub entry: u64,
+}
+
+impl Slot {
+    pub const FREE: Slot = Slot {
+        state: SlotState::Free,
+        base: 0,
+        entry: 0,
+    };
+
+    pub fn is_free(self) -> bool
+        ensures { result ≡ tables.is_free self }
+    {
+        self.state.is_free()
+    }
 }
 
 // Slots 1 to 16, and a record for each endpoint 1 to 31 of each slot, in one flat run.
@@ -50,13 +105,6 @@ pub struct Table {
     pub endpoints: [Endpoint; 496],
 }
 
-// What a look for a slot finds: one in use, or nothing.
-#[derive(Clone, Copy)]
-pub enum Lookup {
-    Used(Slot),
-    Nothing,
-}
-
 // ---- what comes in
 
 // A place on a transfer ring.
@@ -66,7 +114,7 @@ pub struct Dequeue {
     pub cycle: bool,
 }
 
-// What a look at the transfer ring reports.
+// What a look at the transfer ring reports: whether it found a TRB, and the place. A place without a look counts as one that found none.
 #[derive(Clone, Copy)]
 pub struct Look {
     pub found: bool,
@@ -74,11 +122,16 @@ pub struct Look {
     pub cycle: bool,
 }
 
-// A place that a host event may bring.
-#[derive(Clone, Copy)]
-pub enum Given {
-    At(Dequeue),
-    Nowhere,
+impl From<Dequeue> for Look {
+    ghost from_gives = { λ d l. l ≡ unlooked d };
+
+    fn from(d: Dequeue) -> Look {
+        Look {
+            found: false,
+            pointer: d.pointer,
+            cycle: d.cycle,
+        }
+    }
 }
 
 // The nine inputs of an endpoint.
@@ -90,34 +143,23 @@ pub enum Input {
     SetDequeue(Dequeue),
     Terminate,
     Ok(Look),
-    Stall(Given),
-    TransactionError(Given),
+    Stall(Option<Dequeue>),
+    TransactionError(Option<Dequeue>),
     TrbError,
 }
 
 // ---- the steps
 
-// What an input brings: a place, if it is given, and whether a TRB was found there.
-#[derive(Clone, Copy)]
-pub struct Report {
-    pub given: bool,
-    pub found: bool,
-    pub pointer: u64,
-    pub cycle: bool,
-}
-
-// An entry of the table of steps.
+// An entry of the table of steps that is no refusal.
 #[derive(Clone, Copy)]
 pub struct Row {
-    // The answer: 0, 1 or a refusal's code.
+    // The answer: 0 or 1.
     pub code: u8,
-    // The state changes, to `next` where no TRB is found.
-    pub moves: bool,
-    pub next: EndpointState,
-    // `byte` is stored as the context's state byte.
-    pub stores: bool,
-    pub byte: u8,
-    // The given place is taken.
+    // The state after the step where no TRB is found, if it changes.
+    pub next: Option<EndpointState>,
+    // What is stored as the context's state byte, if anything is.
+    pub byte: Option<u8>,
+    // The place is taken, if one is given.
     pub takes: bool,
     // A TRB found there gives In flight, and submit.
     pub looks: bool,
@@ -129,8 +171,36 @@ pub struct Row {
 
 // ---- what goes out
 
+// Why a call is refused, with its code.
+#[derive(Clone, Copy, Debug, PartialEq, Eq)]
+pub enum Refusal {
+    NoFreeSlot = 9,
+    NoSlot = 11,
+    NoEndpoint = 12,
+    EndpointType = 17,
+    State = 19,
+    // A range of the call does not lie in memory.
+    Outside = 193,
+    // The lent memory is not the table's.
+    OtherMemory = 194,
+    Unaligned = 195,
+    // A host event that the endpoint's state does not take.
+    Stray = 196,
+    // A slot limit, or a length of memory.
+    TooLarge = 197,
+    Malformed = 198,
+}
+
+impl Refusal {
+    pub fn code(self) -> u64
+        ensures { result ≡ code_of self }
+    {
+        self as u64
+    }
+}
+
 // The answer's eight numbers. Bit i of a mask is endpoint i; submit and cancel are 0 or 1.
-#[derive(Clone, Copy)]
+#[derive(Clone, Copy, Debug, PartialEq, Eq)]
 pub struct Answer {
     pub code: u64,
     pub slot: u64,

@@ -7,146 +7,155 @@
 mod malformed;
 mod pointers;
 
-use calls::Try;
+use calls::{Call, Shown, Try};
+use definition::{Outcome, Table};
 use std::io;
 use std::io::{BufWriter, Write};
-use tries::{attempt, setting, show, sums};
-
-const MOST: u64 = 0xffff_ffff_ffff_ffff;
+use tries::attempt::Heading;
+use tries::setting::Setting;
+use tries::{attempt, setting, sums};
 
 // ---- ids and limits
 
 // Slot ids, or limits, or values of DCBAAP.
-fn first<W: Write>(out: &mut W, c: usize) -> io::Result<()> {
-    attempt::plain(out, c, 0, 1, 2048)?;
-    attempt::plain(out, c, 1, 1, 2048)?;
-    attempt::plain(out, c, 16, 1, 2048)?;
-    attempt::plain(out, c, 17, 1, 2048)?;
-    attempt::plain(out, c, 31, 1, 2048)?;
-    attempt::plain(out, c, 32, 1, 2048)?;
-    attempt::plain(out, c, 255, 1, 2048)?;
-    attempt::plain(out, c, 0x1_0000_0000, 1, 2048)?;
-    attempt::plain(out, c, MOST, 1, 2048)
+fn first<W: Write>(out: &mut W, call: Call) -> io::Result<()> {
+    for id in [0, 1, 16, 17, 31, 32, 255, 0x1_0000_0000, u64::MAX] {
+        let x = Try {
+            call,
+            id,
+            i: 1,
+            pointer: 2048,
+            flag: true,
+        };
+        attempt::plain(out, x)?;
+    }
+    Ok(())
 }
 
 // Endpoint ids in slot 1, and both ids wrong.
-fn second<W: Write>(out: &mut W, c: usize) -> io::Result<()> {
-    attempt::plain(out, c, 1, 0, 2048)?;
-    attempt::plain(out, c, 1, 16, 2048)?;
-    attempt::plain(out, c, 1, 17, 2048)?;
-    attempt::plain(out, c, 1, 31, 2048)?;
-    attempt::plain(out, c, 1, 32, 2048)?;
-    attempt::plain(out, c, 1, 255, 2048)?;
-    attempt::plain(out, c, 1, 0x1_0000_0000, 2048)?;
-    attempt::plain(out, c, 1, MOST, 2048)?;
-    attempt::plain(out, c, MOST, MOST, 2048)
+fn second<W: Write>(out: &mut W, call: Call) -> io::Result<()> {
+    for (id, i) in [
+        (1, 0),
+        (1, 16),
+        (1, 17),
+        (1, 31),
+        (1, 32),
+        (1, 255),
+        (1, 0x1_0000_0000),
+        (1, u64::MAX),
+        (u64::MAX, u64::MAX),
+    ] {
+        let x = Try {
+            call,
+            id,
+            i,
+            pointer: 2048,
+            flag: true,
+        };
+        attempt::plain(out, x)?;
+    }
+    Ok(())
 }
 
 // A call that reaches an endpoint is given both.
 fn every_id<W: Write>(out: &mut W) -> io::Result<()> {
-    show::text(out, b"ids\n")?;
-    first(out, calls::SET_LIMIT)?;
-    first(out, calls::SET_DCBAAP)?;
-    let mut c: usize = calls::DISABLE_SLOT;
-    while c < 17 {
-        first(out, c)?;
-        if calls::STOP_ENDPOINT <= c {
-            second(out, c)?;
+    writeln!(out, "ids")?;
+    for call in Call::ALL {
+        if !matches!(call, Call::EnableSlot | Call::ResetAll) {
+            first(out, call)?;
         }
-        c += 1;
+        if call >= Call::StopEndpoint {
+            second(out, call)?;
+        }
     }
     Ok(())
 }
 
 // ---- Enable Slot
 
-fn enable<W: Write>(out: &mut W, limit: u64) -> io::Result<()> {
-    let mut t = setting::table();
-    t.limit = limit;
-    attempt::call(
-        out,
-        t,
-        attempt::PLAIN,
-        4096,
-        Try {
-            call: calls::ENABLE_SLOT,
+fn enables<W: Write>(out: &mut W) -> io::Result<()> {
+    writeln!(out, "enable")?;
+    for limit in [0, 1, 3, 4, 16, 17] {
+        let s = Setting {
+            table: Table {
+                limit,
+                ..setting::table()
+            },
+            ..Setting::default()
+        };
+        let x = Try {
+            call: Call::EnableSlot,
             id: limit,
             i: 0,
             pointer: 0,
             flag: false,
-        },
-    )
-}
-
-fn enables<W: Write>(out: &mut W) -> io::Result<()> {
-    show::text(out, b"enable\n")?;
-    enable(out, 0)?;
-    enable(out, 1)?;
-    enable(out, 3)?;
-    enable(out, 4)?;
-    enable(out, 16)?;
-    enable(out, 17)
+        };
+        attempt::call(out, s, x)?;
+    }
+    Ok(())
 }
 
 // ---- making a table
 
-fn make<W: Write>(out: &mut W, length: u64) -> io::Result<()> {
-    let r = slot_manager::make_table(length);
-    show::text(out, b"make-table")?;
-    show::number(out, length)?;
-    let a = r.answer;
-    show::answer(out, a)?;
-    let t = r.table;
-    show::number(out, sums::table(t))?;
-    show::text(out, b"\n")
-}
-
 fn makes<W: Write>(out: &mut W) -> io::Result<()> {
-    make(out, 0)?;
-    make(out, 1)?;
-    make(out, 4096)?;
-    make(out, 1073741823)?;
-    make(out, 1073741824)?;
-    make(out, 1073741825)?;
-    make(out, 0x1_0000_0000)?;
-    make(out, MOST)
+    for length in [
+        0,
+        1,
+        4096,
+        1_073_741_823,
+        1_073_741_824,
+        1_073_741_825,
+        0x1_0000_0000,
+        u64::MAX,
+    ] {
+        let Outcome { table, answer } = slot_manager::make_table(length);
+        let sum = sums::table(&table);
+        writeln!(out, "make-table {length} | {} | {sum}", Shown(answer))?;
+    }
+    Ok(())
 }
 
 // ---- limits and lengths
 
-fn numbers<W: Write>(
-    out: &mut W,
-    limit: u64,
-    length: u64,
-    n: usize,
-    id: u64,
-    i: u64,
-) -> io::Result<()> {
-    let mut t = setting::table();
-    t.limit = limit;
-    t.length = length;
-    attempt::every(out, t, n, id, i)
+// Tables with these limits and lengths, and bytes and ids for the calls on them.
+fn numbers<W: Write>(out: &mut W, limit: u64, length: u64, h: Heading) -> io::Result<()> {
+    let t = Table {
+        limit,
+        length,
+        ..setting::table()
+    };
+    attempt::every(out, t, h)
 }
 
 // A byte short, a byte long, and none; then a malformed table too, for which 198 comes first; then a length in range that is not the memory's.
 fn lengths<W: Write>(out: &mut W) -> io::Result<()> {
-    numbers(out, 4, 4096, 4095, 1, 2)?;
-    numbers(out, 4, 4096, 4095, 0, 0)?;
-    numbers(out, 4, 4096, 4097, 1, 2)?;
-    numbers(out, 4, 4096, 4097, MOST, MOST)?;
-    numbers(out, 4, 4096, 0, 1, 2)?;
-    numbers(out, 17, 4096, 4095, 0, 0)?;
-    numbers(out, 4, 1073741824, 4096, 1, 2)
+    for (limit, length, lent, id, i) in [
+        (4, 4096, 4095, 1, 2),
+        (4, 4096, 4095, 0, 0),
+        (4, 4096, 4097, 1, 2),
+        (4, 4096, 4097, u64::MAX, u64::MAX),
+        (4, 4096, 0, 1, 2),
+        (17, 4096, 4095, 0, 0),
+        (4, 1_073_741_824, 4096, 1, 2),
+    ] {
+        numbers(out, limit, length, Heading { lent, id, i })?;
+    }
+    Ok(())
 }
 
 // A limit above 16; a length above 1,073,741,824, or so small that slot 16's contexts end outside.
 fn out_of_range<W: Write>(out: &mut W) -> io::Result<()> {
-    show::text(out, b"limits and lengths\n")?;
-    numbers(out, 17, 4096, 4096, 1, 2)?;
-    numbers(out, MOST, 4096, 4096, 1, 2)?;
-    numbers(out, 4, 1073741825, 4096, 1, 2)?;
-    numbers(out, 4, MOST, 4096, 1, 2)?;
-    numbers(out, 4, 4095, 4096, 1, 2)
+    writeln!(out, "limits and lengths")?;
+    for (limit, length) in [
+        (17, 4096),
+        (u64::MAX, 4096),
+        (4, 1_073_741_825),
+        (4, u64::MAX),
+        (4, 4095),
+    ] {
+        numbers(out, limit, length, Heading::PLAIN)?;
+    }
+    Ok(())
 }
 
 fn main(rt: HostRuntime) -> io::Result<()> {

@@ -1,181 +1,229 @@
 // Pointers at the edges of memory: of an input context, a DCBAA entry, a device context, a transfer ring.
-use calls::Try;
-use definition::SlotState;
+use calls::{Call, Try};
+use definition::{Slot, SlotState};
 use std::io;
 use std::io::Write;
-use tries::setting::Guest;
+use tries::record::Record;
+use tries::setting::{Guest, Setting};
 use tries::{attempt, setting};
 
 // ---- input contexts
 
-fn input<W: Write>(
-    out: &mut W,
-    g: Guest,
-    call: usize,
-    id: u64,
-    pointer: u64,
-    flag: bool,
-) -> io::Result<()> {
-    attempt::call(
-        out,
-        setting::table(),
-        g,
-        4096,
-        Try {
-            call,
-            id,
-            i: 0,
-            pointer,
-            flag,
-        },
-    )
+fn input<W: Write>(out: &mut W, guest: Guest, x: Try) -> io::Result<()> {
+    let s = Setting {
+        guest,
+        ..Setting::default()
+    };
+    attempt::call(out, s, x)
 }
 
-fn at<W: Write>(out: &mut W, g: Guest, c: usize, id: u64, flag: bool) -> io::Result<()> {
-    input(out, g, c, id, 0, flag)?;
-    input(out, g, c, id, 2048, flag)?;
-    input(out, g, c, id, 4000, flag)?;
-    input(out, g, c, id, 4001, flag)?;
-    input(out, g, c, id, 4032, flag)?;
-    input(out, g, c, id, 4033, flag)?;
-    input(out, g, c, id, 4096, flag)?;
-    input(out, g, c, id, 0xffff_ffff_ffff_fffc, flag)?;
-    input(out, g, c, id, 0xffff_ffff_ffff_ffe0, flag)
+// This call, with each pointer.
+fn at<W: Write>(out: &mut W, g: Guest, x: Try) -> io::Result<()> {
+    for pointer in [
+        0,
+        2048,
+        4000,
+        4001,
+        4032,
+        4033,
+        4096,
+        0xffff_ffff_ffff_fffc,
+        0xffff_ffff_ffff_ffe0,
+    ] {
+        input(out, g, Try { pointer, ..x })?;
+    }
+    Ok(())
 }
 
 // Each call with an input context, in each slot state.
 fn all<W: Write>(out: &mut W, flags: u64, kind: u64) -> io::Result<()> {
     let g = Guest {
-        base: 1536,
         flags,
         kind,
+        ..Guest::PLAIN
     };
-    at(out, g, calls::ADDRESS_DEVICE, 2, false)?;
-    at(out, g, calls::ADDRESS_DEVICE, 2, true)?;
-    at(out, g, calls::ADDRESS_DEVICE, 3, false)?;
-    at(out, g, calls::ADDRESS_DEVICE, 3, true)?;
-    at(out, g, calls::CONFIGURE_ENDPOINT, 1, false)?;
-    at(out, g, calls::CONFIGURE_ENDPOINT, 1, true)?;
-    at(out, g, calls::CONFIGURE_ENDPOINT, 2, false)?;
-    at(out, g, calls::CONFIGURE_ENDPOINT, 16, false)?;
-    at(out, g, calls::EVALUATE_CONTEXT, 2, false)
+    for (call, id, flag) in [
+        (Call::AddressDevice, 2, false),
+        (Call::AddressDevice, 2, true),
+        (Call::AddressDevice, 3, false),
+        (Call::AddressDevice, 3, true),
+        (Call::ConfigureEndpoint, 1, false),
+        (Call::ConfigureEndpoint, 1, true),
+        (Call::ConfigureEndpoint, 2, false),
+        (Call::ConfigureEndpoint, 16, false),
+        (Call::EvaluateContext, 2, false),
+    ] {
+        let x = Try {
+            call,
+            id,
+            i: 0,
+            pointer: 0,
+            flag,
+        };
+        at(out, g, x)?;
+    }
+    Ok(())
 }
 
 // A type of endpoint 1, with its flag set.
-fn kind<W: Write>(out: &mut W, n: u64) -> io::Result<()> {
+fn kind<W: Write>(out: &mut W, kind: u64) -> io::Result<()> {
     let g = Guest {
-        base: 1536,
         flags: 0x2_0000_0000,
-        kind: n,
+        kind,
+        ..Guest::PLAIN
     };
-    input(out, g, calls::ADDRESS_DEVICE, 2, 2048, false)?;
-    input(out, g, calls::CONFIGURE_ENDPOINT, 1, 2048, false)?;
-    input(out, g, calls::EVALUATE_CONTEXT, 3, 2048, false)
+    for (call, id) in [
+        (Call::AddressDevice, 2),
+        (Call::ConfigureEndpoint, 1),
+        (Call::EvaluateContext, 3),
+    ] {
+        let x = Try {
+            call,
+            id,
+            i: 0,
+            pointer: 2048,
+            flag: false,
+        };
+        input(out, g, x)?;
+    }
+    Ok(())
 }
 
 fn kinds<W: Write>(out: &mut W) -> io::Result<()> {
-    tries::show::text(out, b"types\n")?;
-    kind(out, 0)?;
-    kind(out, 0x08_0000_0000)?;
-    kind(out, 0x10_0000_0000)?;
-    kind(out, 0x18_0000_0000)?;
-    kind(out, 0x20_0000_0000)?;
-    kind(out, 0x28_0000_0000)?;
-    kind(out, 0x30_0000_0000)?;
-    kind(out, 0x38_0000_0000)
+    writeln!(out, "types")?;
+    for n in [
+        0,
+        0x08_0000_0000,
+        0x10_0000_0000,
+        0x18_0000_0000,
+        0x20_0000_0000,
+        0x28_0000_0000,
+        0x30_0000_0000,
+        0x38_0000_0000,
+    ] {
+        kind(out, n)?;
+    }
+    Ok(())
 }
 
 pub fn inputs<W: Write>(out: &mut W) -> io::Result<()> {
-    tries::show::text(out, b"no flags\n")?;
-    all(out, 0, 0)?;
-    tries::show::text(out, b"first flag\n")?;
-    all(out, 0x2_0000_0000, 0x20_0000_0000)?;
-    tries::show::text(out, b"last flag\n")?;
-    all(out, 0x8000_0000_0000_0000, 0x20_0000_0000)?;
+    for (heading, flags, kind) in [
+        ("no flags", 0, 0),
+        ("first flag", 0x2_0000_0000, 0x20_0000_0000),
+        ("last flag", 0x8000_0000_0000_0000, 0x20_0000_0000),
+    ] {
+        writeln!(out, "{heading}")?;
+        all(out, flags, kind)?;
+    }
     kinds(out)
 }
 
 // ---- DCBAA entries and device contexts
 
-fn base<W: Write>(out: &mut W, n: u64) -> io::Result<()> {
+// Address Device, on slot 2.
+const ADDRESS: Try = Try {
+    call: Call::AddressDevice,
+    id: 2,
+    i: 0,
+    pointer: 2048,
+    flag: false,
+};
+
+fn base<W: Write>(out: &mut W, base: u64) -> io::Result<()> {
     let g = Guest {
-        base: n,
-        flags: 0,
-        kind: 0,
+        base,
+        ..Guest::PLAIN
     };
-    input(out, g, calls::ADDRESS_DEVICE, 2, 2048, false)?;
-    input(out, g, calls::ADDRESS_DEVICE, 2, 2048, true)
+    for flag in [false, true] {
+        input(out, g, Try { flag, ..ADDRESS })?;
+    }
+    Ok(())
 }
 
-fn entry<W: Write>(out: &mut W, n: u64) -> io::Result<()> {
-    let t = setting::with_slot(setting::table(), 1, SlotState::Enabled, 0, n);
-    attempt::call(
-        out,
-        t,
-        attempt::PLAIN,
-        4096,
-        Try {
-            call: calls::ADDRESS_DEVICE,
-            id: 2,
-            i: 0,
-            pointer: 2048,
-            flag: false,
-        },
-    )
+fn entry<W: Write>(out: &mut W, entry: u64) -> io::Result<()> {
+    let slot = Slot {
+        state: SlotState::Enabled,
+        base: 0,
+        entry,
+    };
+    let s = Setting {
+        table: slot.put(setting::table(), 1),
+        ..Setting::default()
+    };
+    attempt::call(out, s, ADDRESS)
 }
 
 fn entries<W: Write>(out: &mut W) -> io::Result<()> {
-    tries::show::text(out, b"entries\n")?;
-    entry(out, 0)?;
-    entry(out, 4032)?;
-    entry(out, 4033)?;
-    entry(out, 4088)?;
-    entry(out, 4089)?;
-    entry(out, 4096)?;
-    entry(out, 0xffff_ffff_ffff_fffc)?;
-    entry(out, 0xffff_ffff_ffff_ffe0)?;
-    entry(out, 0xffff_ffff_ffff_ffff)
+    writeln!(out, "entries")?;
+    for n in [
+        0,
+        4032,
+        4033,
+        4088,
+        4089,
+        4096,
+        0xffff_ffff_ffff_fffc,
+        0xffff_ffff_ffff_ffe0,
+        u64::MAX,
+    ] {
+        entry(out, n)?;
+    }
+    Ok(())
 }
 
 pub fn bases<W: Write>(out: &mut W) -> io::Result<()> {
-    tries::show::text(out, b"bases\n")?;
-    base(out, 0)?;
-    base(out, 4032)?;
-    base(out, 4033)?;
-    base(out, 4096)?;
-    base(out, 0xffff_ffff_ffff_fffc)?;
-    base(out, 0xffff_ffff_ffff_ffe0)?;
-    base(out, 0xffff_ffff_ffff_ffff)?;
+    writeln!(out, "bases")?;
+    for n in [
+        0,
+        4032,
+        4033,
+        4096,
+        0xffff_ffff_ffff_fffc,
+        0xffff_ffff_ffff_ffe0,
+        u64::MAX,
+    ] {
+        base(out, n)?;
+    }
     entries(out)
 }
 
 // ---- transfer rings
 
-fn places<W: Write>(out: &mut W, c: usize, i: u64) -> io::Result<()> {
-    attempt::plain(out, c, 1, i, 0)?;
-    attempt::plain(out, c, 1, i, 4032)?;
-    attempt::plain(out, c, 1, i, 4033)?;
-    attempt::plain(out, c, 1, i, 4096)?;
-    attempt::plain(out, c, 1, i, 0xffff_ffff_ffff_fff0)?;
-    attempt::plain(out, c, 1, i, 0xffff_ffff_ffff_fffc)?;
-    attempt::plain(out, c, 1, i, 0xffff_ffff_ffff_ffe0)
-}
-
-// In each of the six resting states.
-fn states<W: Write>(out: &mut W, c: usize) -> io::Result<()> {
-    places(out, c, 1)?;
-    places(out, c, 2)?;
-    places(out, c, 3)?;
-    places(out, c, 4)?;
-    places(out, c, 5)?;
-    places(out, c, 6)
+fn places<W: Write>(out: &mut W, call: Call, i: u64) -> io::Result<()> {
+    for pointer in [
+        0,
+        4032,
+        4033,
+        4096,
+        0xffff_ffff_ffff_fff0,
+        0xffff_ffff_ffff_fffc,
+        0xffff_ffff_ffff_ffe0,
+    ] {
+        let x = Try {
+            call,
+            id: 1,
+            i,
+            pointer,
+            flag: true,
+        };
+        attempt::plain(out, x)?;
+    }
+    Ok(())
 }
 
 pub fn rings<W: Write>(out: &mut W) -> io::Result<()> {
-    tries::show::text(out, b"rings\n")?;
-    states(out, calls::SET_DEQUEUE)?;
-    states(out, calls::DOORBELL)?;
-    states(out, calls::HOST_OK)?;
-    states(out, calls::HOST_STALL)?;
-    states(out, calls::HOST_TRANSACTION_ERROR)
+    writeln!(out, "rings")?;
+    for call in [
+        Call::SetDequeue,
+        Call::Doorbell,
+        Call::HostOk,
+        Call::HostStall,
+        Call::HostTransactionError,
+    ] {
+        // In each of the six resting states.
+        for i in 1..=6 {
+            places(out, call, i)?;
+        }
+    }
+    Ok(())
 }

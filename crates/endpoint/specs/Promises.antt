@@ -1,8 +1,11 @@
 -- What this crate's functions promise. A crate above needs nothing of it but these.
 -- Assumes nothing.
-use Rattle.std.specs.Prelude.{◌≡◌, false, cond, ℕ, ◌+◌, ◌%◌, ◌≤◌, ◌<◌, leb, length}
+use Rattle.std.specs.Prelude.{◌≡◌, false, cond, ℕ, ◌+◌, ◌%◌, ◌≤◌, ◌<◌, length}
+use Rattle.std.specs.Prelude as rust
 use Rattle.guest.specs.Prog.{Mem, Prog, Ends, Result, ok, refuse}
 use Rattle.definition.specs.declared.Endpoint.{Endpoint}
+use Rattle.definition.specs.declared.Refusal.{Refusal}
+use Rattle.definition.specs.Refusals.{code_of}
 use Rattle.definition.specs.Table.{is_disabled}
 use Rattle.definition.specs.Steps.{Stepped, launch_at, terminate_at}
 use Rattle.endpoint.specs.declared.Taken.{Taken}
@@ -19,25 +22,22 @@ pub record Ready (e : Endpoint) (at : ℕ) (m : Mem) : Type 0 where
 abbrev pub value_of : Taken → Stepped
 value_of r = record { endpoint = r.endpoint; code = r.code; submit = r.submit; cancel = r.cancel }
 
--- .. where the code is 0 or 1; any other is a refusal
-abbrev pub judged : Taken → Result Stepped
-judged r = cond (leb r.code 1) (ok (value_of r)) (refuse r.code)
-
--- "Everything but the code is 0 in a refusal", and the record is as it was
-pub record Unmoved (e : Endpoint) (r : Taken) : Type 0 where
-  pub endpoint : r.endpoint ≡ e
-  pub submit : r.submit ≡ false
-  pub cancel : r.cancel ≡ false
-  pub stored : r.stored ≡ 0
-
--- the endpoint e over the memory m took the step p: r and the memory m' are its end. The rest follows from that, and is what callers need of it
-pub record Takes (p : Prog (Result Stepped)) (e : Endpoint) (m : Mem) (r : Taken) (m' : Mem) : Type 0 where
-  pub ends : Ends p m 0 (judged r) m' r.stored
-  pub refused : 1 < r.code → Unmoved e r
-  pub kept : 1 < r.code → m' ≡ m
-  pub small : r.code ≤ 196
+-- the step p over the memory m was taken: r and the memory m' are its end. The rest follows from that, and is what callers need of it
+pub record Done (p : Prog (Result Stepped)) (m : Mem) (r : Taken) (m' : Mem) : Type 0 where
+  pub ends : Ends p m 0 (ok (value_of r)) m' r.stored
+  pub code : r.code ≤ 1
   pub few : r.stored ≤ 9
   pub aligned : r.endpoint.pointer % 16 ≡ 0
+
+-- .. or it was refused, and nothing is stored. "Everything but the code is 0 in a refusal"
+pub record Refused (p : Prog (Result Stepped)) (m : Mem) (x : Refusal) (m' : Mem) : Type 0 where
+  pub ends : Ends p m 0 (refuse (code_of x)) m' 0
+  pub kept : m' ≡ m
+  pub small : code_of x ≤ 196
+
+abbrev pub Takes : Prog (Result Stepped) → Mem → rust.Result Taken Refusal → Mem → Type 0
+Takes p m (rust.Ok r) m' = Done p m r m'
+Takes p m (rust.Err x) m' = Refused p m x m'
 
 -- ---- launch and terminate
 

@@ -10,11 +10,11 @@ mod table;
 ghost use Rattle.std.specs.Prelude.{◌≡◌, false, ◌+◌, ◌≤◌, length};
 ghost use Rattle.definition.specs.Table.{is_disabled};
 ghost use Rattle.definition.specs.Steps.{step_by, step};
-ghost use Rattle.endpoint.specs.Promises.{Ready, Unmoved, Takes, Launches, Terminates};
+ghost use Rattle.endpoint.specs.Promises.{Ready, Takes, Launches, Terminates};
 
-use definition::{Endpoint, EndpointState, Input, Report, Row};
+use definition::{Endpoint, EndpointState, Input, Look, Refusal, Row};
 
-// What a step leaves: the record, the answer's code, the effects, the count of bytes stored.
+// What a step leaves: the record, the answer's code (0 or 1), the effects, the count of bytes stored.
 #[derive(Clone, Copy)]
 pub struct Taken {
     pub endpoint: Endpoint,
@@ -24,78 +24,61 @@ pub struct Taken {
     pub stored: u64,
 }
 
-// What a termination leaves: the record, the count of bytes stored.
+// What a termination leaves: the record, the count of bytes stored. (In a `Taken` the other three fields would mean nothing.)
 #[derive(Clone, Copy)]
 pub struct Terminated {
     pub endpoint: Endpoint,
     pub stored: u64,
 }
 
-const DISABLED: Endpoint = Endpoint {
-    state: EndpointState::Disabled,
-    cycle: false,
-    pointer: 0,
-};
-
 // The endpoint is disabled.
 pub fn is_disabled(e: Endpoint) -> bool
     ensures { result ≡ is_disabled e }
 {
-    let state = e.state;
-    table::state_number(state) == 0
+    e.is_disabled()
 }
 
-// A step that is refused with a code, and leaves all as it was.
-fn refused(e: Endpoint, code: u64) -> Taken
-    ensures { (result.code ≡ code) × Unmoved e result }
-{
-    Taken {
-        endpoint: e,
-        code,
-        submit: false,
-        cancel: false,
-        stored: 0,
-    }
-}
-
-// A step by an entry of the table. The state is judged before the alignment.
-fn step_by(row: Row, e: Endpoint, report: Report, mem: &mut [u8], at: usize) -> Taken
-    requires code_bound { row.code ≤ 196 }
+// A step by a row of the table. The state was judged; the alignment is judged here.
+#[tactic(auto, using(crate::proofs::StepLaws::refused_place))]
+fn step_by(
+    row: Row,
+    e: Endpoint,
+    report: Option<Look>,
+    mem: &mut [u8],
+    at: usize,
+) -> Result<Taken, Refusal>
+    requires code_bound { row.code ≤ 1 }
     requires ready { Ready e at mem.old }
-    ensures { Takes (step_by row e report at) e mem.old result mem.new }
+    ensures { Takes (step_by row e report at) mem.old result mem.new }
 {
-    let code = row.code as u64;
-    if 1 < code {
-        return refused(e, code);
-    }
     if record::misaligned(row, report) {
-        return refused(e, 195);
+        return Err(Refusal::Unaligned);
     }
-    let next = record::moved(row, e, report);
+    let endpoint = record::moved(row, e, report);
     let submit = record::submits(row, report);
-    let stored = context::store(row, next, mem, at);
-    Taken {
-        endpoint: next,
-        code,
+    let stored = context::store(row, endpoint, mem, at);
+    Ok(Taken {
+        endpoint,
+        code: u64::from(row.code),
         submit,
         cancel: row.cancels,
         stored,
-    }
+    })
 }
 
 // One step of the enabled endpoint whose context is at `at`.
-pub fn step(e: Endpoint, input: Input, mem: &mut [u8], at: usize) -> Taken
+#[tactic(auto, using(crate::proofs::StepLaws::refused_state, crate::proofs::StepLaws::by_row))]
+pub fn step(e: Endpoint, input: Input, mem: &mut [u8], at: usize) -> Result<Taken, Refusal>
     requires e_value { is_disabled e ≡ false }
     requires ready { Ready e at mem.old }
-    ensures { Takes (step e input at) e mem.old result mem.new }
+    ensures { Takes (step e input at) mem.old result mem.new }
 {
-    let state = e.state;
-    let row = table::row_of(state, input);
-    let report = report::report_of(input);
-    step_by(row, e, report, mem, at)
+    let row = table::row_of(e.state, input)?;
+    step_by(row, e, report::report_of(input), mem, at)
 }
 
 // The endpoint whose context is at `at` is launched: state byte 1, its place from the dequeue word, Waiting.
+#[tactic(auto, using(crate::proofs::StepLaws::launched))]
 pub fn launch(mem: &mut [u8], at: usize) -> Endpoint
     requires { at + 32 ≤ length mem.old }
     ensures { Launches at mem.old result mem.new }
@@ -110,11 +93,12 @@ pub fn launch(mem: &mut [u8], at: usize) -> Endpoint
 }
 
 // The endpoint whose context is at `at` is terminated: state byte 0, disabled. A disabled one is passed over.
+#[tactic(auto, using(crate::proofs::StepLaws::passed_over, crate::proofs::StepLaws::terminated))]
 pub fn terminate(e: Endpoint, mem: &mut [u8], at: usize) -> Terminated
     requires { is_disabled e ≡ false → at + 32 ≤ length mem.old }
     ensures { Terminates e at mem.old result mem.new }
 {
-    if is_disabled(e) {
+    if e.is_disabled() {
         return Terminated {
             endpoint: e,
             stored: 0,
@@ -122,7 +106,7 @@ pub fn terminate(e: Endpoint, mem: &mut [u8], at: usize) -> Terminated
     }
     guest::context::store_state(mem, at, 0);
     Terminated {
-        endpoint: DISABLED,
+        endpoint: Endpoint::DISABLED,
         stored: 1,
     }
 }

@@ -1,61 +1,51 @@
-// The record after a step, by an entry of the table and what the input brings.
-ghost use Rattle.std.specs.Prelude.{◌≡◌, ◌&&◌, ◌%◌};
+// The record after a step, by a row of the table and what the input brings.
+ghost use Rattle.std.specs.Prelude.{◌≡◌};
 ghost use Rattle.definition.specs.Steps as steps;
 
-use definition::{Endpoint, EndpointState, Report, Row};
+use definition::{Endpoint, EndpointState, Look, Row};
 
-// The step takes the place that is given.
-fn takes(row: Row, report: Report) -> bool
-    ensures { result ≡ row.takes && report.given }
+// The place that the step takes.
+fn taken(row: Row, report: Option<Look>) -> Option<Look>
+    ensures { result ≡ steps.taken row report }
 {
-    if row.takes { report.given } else { false }
+    if row.takes { report } else { None }
 }
 
 // The step looks, and a TRB was found.
-pub fn submits(row: Row, report: Report) -> bool
+pub fn submits(row: Row, report: Option<Look>) -> bool
     ensures { result ≡ steps.submits row report }
 {
-    if row.looks { report.found } else { false }
+    row.looks && report.is_some_and(|look| look.found)
 }
 
 // The place that the step takes is not a multiple of 16.
-pub fn misaligned(row: Row, report: Report) -> bool
+pub fn misaligned(row: Row, report: Option<Look>) -> bool
     ensures { result ≡ steps.misaligned row report }
 {
-    if takes(row, report) {
-        return report.pointer % 16 != 0;
-    }
-    false
+    taken(row, report).is_some_and(|place| place.pointer % 16 != 0)
 }
 
-fn next_state(row: Row, s: EndpointState, report: Report) -> EndpointState
+fn next_state(row: Row, s: EndpointState, report: Option<Look>) -> EndpointState
     ensures { result ≡ steps.next_state row s report }
 {
     if submits(row, report) {
-        return EndpointState::InFlight;
+        EndpointState::InFlight
+    } else {
+        row.next.unwrap_or(s)
     }
-    if row.moves {
-        return row.next;
-    }
-    s
 }
 
 // The record after the step.
-pub fn moved(row: Row, e: Endpoint, report: Report) -> Endpoint
+pub fn moved(row: Row, e: Endpoint, report: Option<Look>) -> Endpoint
     ensures { result ≡ steps.moved row e report }
 {
-    let before = e.state;
-    let state = next_state(row, before, report);
-    if takes(row, report) {
-        return Endpoint {
+    let state = next_state(row, e.state, report);
+    match taken(row, report) {
+        Some(place) => Endpoint {
             state,
-            cycle: report.cycle,
-            pointer: report.pointer,
-        };
-    }
-    Endpoint {
-        state,
-        cycle: e.cycle,
-        pointer: e.pointer,
+            cycle: place.cycle,
+            pointer: place.pointer,
+        },
+        None => Endpoint { state, ..e },
     }
 }

@@ -8,264 +8,186 @@
 ghost use Rattle.std.specs.Prelude.{◌≡◌, false, eqb};
 ghost use Rattle.definition.specs.Table.{endpoint_number};
 
-use definition::{Dequeue, Endpoint, EndpointState, Given, Input, Look};
+mod show;
+
+use definition::{Dequeue, Endpoint, EndpointState, Input, Look, Refusal};
+use endpoint::{Taken, Terminated};
+use show::Shown;
 use std::io;
 use std::io::{BufWriter, Write};
 
-// A place that a step may take, and one that it must refuse where it uses it.
+// A pointer that a step may take, and one that it must refuse where it uses it.
 const ALIGNED: u64 = 0x2340;
 
 const UNALIGNED: u64 = 0x2348;
 
-fn text<W: Write>(out: &mut W, t: &[u8]) -> io::Result<()> {
-    out.write_all(t)
+// What a look at the ring may report to a doorbell and to an Ok.
+const LOOKS: [Look; 4] = [
+    Look {
+        found: false,
+        pointer: ALIGNED,
+        cycle: true,
+    },
+    Look {
+        found: true,
+        pointer: ALIGNED,
+        cycle: false,
+    },
+    Look {
+        found: false,
+        pointer: UNALIGNED,
+        cycle: true,
+    },
+    Look {
+        found: true,
+        pointer: UNALIGNED,
+        cycle: true,
+    },
+];
+
+// Places with cycle 0 and 1, and one that must be refused.
+const CLEAR: Dequeue = Dequeue {
+    pointer: ALIGNED,
+    cycle: false,
+};
+
+const SET: Dequeue = Dequeue {
+    pointer: ALIGNED,
+    cycle: true,
+};
+
+const REFUSED: Dequeue = Dequeue {
+    pointer: UNALIGNED,
+    cycle: true,
+};
+
+// The places of Set TR Dequeue Pointer, and those that a host error may bring.
+const PLACES: [Dequeue; 3] = [CLEAR, SET, REFUSED];
+
+const GIVEN: [Option<Dequeue>; 3] = [Some(CLEAR), Some(REFUSED), None];
+
+const ENABLED: [EndpointState; 6] = [
+    EndpointState::Waiting,
+    EndpointState::InFlight,
+    EndpointState::Halted,
+    EndpointState::Error,
+    EndpointState::StoppedContinuable,
+    EndpointState::Stopped,
+];
+
+// Memory before a call: ee all over.
+const FRESH: [u8; 40] = [0xee; 40];
+
+// A state of the table of steps: any but Disabled.
+#[derive(Clone, Copy)]
+struct Enabled {
+    state: EndpointState,
+    ghost enabled: { eqb (endpoint_number state) 0 ≡ false },
 }
 
-fn number<W: Write>(out: &mut W, n: u64) -> io::Result<()> {
-    text(out, b" ")?;
-    write!(out, "{n}")
-}
-
-fn pointer<W: Write>(out: &mut W, p: u64) -> io::Result<()> {
-    text(out, b" ")?;
-    write!(out, "{p:x}")
-}
-
-fn flag<W: Write>(out: &mut W, b: bool) -> io::Result<()> {
-    if b {
-        text(out, b" 1")
-    } else {
-        text(out, b" 0")
+// What a refused step leaves: the record as it was, and the code.
+fn kept(endpoint: Endpoint, refusal: Refusal) -> Taken {
+    Taken {
+        endpoint,
+        code: refusal.code(),
+        submit: false,
+        cancel: false,
+        stored: 0,
     }
 }
 
-fn state<W: Write>(out: &mut W, s: EndpointState) -> io::Result<()> {
-    match s {
-        EndpointState::Disabled => text(out, b"disabled"),
-        EndpointState::Waiting => text(out, b"waiting"),
-        EndpointState::InFlight => text(out, b"in-flight"),
-        EndpointState::Halted => text(out, b"halted"),
-        EndpointState::Error => text(out, b"error"),
-        EndpointState::StoppedContinuable => text(out, b"stopped-continuable"),
-        EndpointState::Stopped => text(out, b"stopped"),
-    }
-}
-
-fn dequeue<W: Write>(out: &mut W, d: Dequeue) -> io::Result<()> {
-    pointer(out, d.pointer)?;
-    flag(out, d.cycle)
-}
-
-fn look<W: Write>(out: &mut W, l: Look) -> io::Result<()> {
-    flag(out, l.found)?;
-    pointer(out, l.pointer)?;
-    flag(out, l.cycle)
-}
-
-fn given<W: Write>(out: &mut W, g: Given) -> io::Result<()> {
-    match g {
-        Given::At(d) => dequeue(out, d),
-        Given::Nowhere => text(out, b" nowhere"),
-    }
-}
-
-fn input<W: Write>(out: &mut W, i: Input) -> io::Result<()> {
-    match i {
-        Input::Doorbell(l) => {
-            text(out, b" doorbell")?;
-            look(out, l)
-        }
-        Input::Stop => text(out, b" stop"),
-        Input::Reset => text(out, b" reset"),
-        Input::SetDequeue(d) => {
-            text(out, b" set-dequeue")?;
-            dequeue(out, d)
-        }
-        Input::Terminate => text(out, b" terminate"),
-        Input::Ok(l) => {
-            text(out, b" ok")?;
-            look(out, l)
-        }
-        Input::Stall(g) => {
-            text(out, b" stall")?;
-            given(out, g)
-        }
-        Input::TransactionError(g) => {
-            text(out, b" transaction-error")?;
-            given(out, g)
-        }
-        Input::TrbError => text(out, b" trb-error"),
-    }
-}
-
-fn word<W: Write>(out: &mut W, w: u64) -> io::Result<()> {
-    text(out, b" ")?;
-    write!(out, "{w:016x}")
-}
-
-fn memory<W: Write>(out: &mut W, mem: &[u8; 40]) -> io::Result<()> {
-    text(out, b" |")?;
-    word(out, guest::words::read_u64(mem, 0))?;
-    word(out, guest::words::read_u64(mem, 8))?;
-    word(out, guest::words::read_u64(mem, 16))?;
-    word(out, guest::words::read_u64(mem, 24))?;
-    word(out, guest::words::read_u64(mem, 32))?;
-    text(out, b"\n")
-}
-
-fn record<W: Write>(out: &mut W, e: Endpoint) -> io::Result<()> {
-    let s = e.state;
-    text(out, b" | ")?;
-    state(out, s)?;
-    pointer(out, e.pointer)?;
-    flag(out, e.cycle)
-}
-
-// One step of an endpoint at place 1230 with cycle 1, over memory that is ee all over.
-fn step<W: Write>(out: &mut W, s: EndpointState, i: Input) -> io::Result<()>
-    requires { eqb (endpoint_number s) 0 ≡ false }
-{
-    let mut mem = [0xeeu8; 40];
-    let e = Endpoint {
-        state: s,
+// One step of an endpoint at place 1230 with cycle 1.
+fn step<W: Write>(out: &mut W, from: Enabled, input: Input) -> io::Result<()> {
+    let mut mem = FRESH;
+    let before = Endpoint {
+        state: from.state,
         cycle: true,
         pointer: 0x1230,
     };
-    let r = endpoint::step(e, i, &mut mem, 8);
-    state(out, s)?;
-    input(out, i)?;
-    text(out, b" |")?;
-    number(out, r.code)?;
-    flag(out, r.submit)?;
-    flag(out, r.cancel)?;
-    number(out, r.stored)?;
-    let f = r.endpoint;
-    record(out, f)?;
-    memory(out, &mem)
-}
-
-fn place(p: u64, cycle: bool) -> Dequeue {
-    Dequeue { pointer: p, cycle }
-}
-
-fn report(found: bool, p: u64, cycle: bool) -> Look {
-    Look {
-        found,
-        pointer: p,
-        cycle,
-    }
-}
-
-fn doorbells<W: Write>(out: &mut W, s: EndpointState) -> io::Result<()>
-    requires { eqb (endpoint_number s) 0 ≡ false }
-{
-    step(out, s, Input::Doorbell(report(false, ALIGNED, true)))?;
-    step(out, s, Input::Doorbell(report(true, ALIGNED, false)))?;
-    step(out, s, Input::Doorbell(report(false, UNALIGNED, true)))?;
-    step(out, s, Input::Doorbell(report(true, UNALIGNED, true)))
-}
-
-fn commands<W: Write>(out: &mut W, s: EndpointState) -> io::Result<()>
-    requires { eqb (endpoint_number s) 0 ≡ false }
-{
-    step(out, s, Input::Stop)?;
-    step(out, s, Input::Reset)?;
-    step(out, s, Input::SetDequeue(place(ALIGNED, false)))?;
-    step(out, s, Input::SetDequeue(place(ALIGNED, true)))?;
-    step(out, s, Input::SetDequeue(place(UNALIGNED, true)))?;
-    step(out, s, Input::Terminate)
-}
-
-fn completions<W: Write>(out: &mut W, s: EndpointState) -> io::Result<()>
-    requires { eqb (endpoint_number s) 0 ≡ false }
-{
-    step(out, s, Input::Ok(report(false, ALIGNED, true)))?;
-    step(out, s, Input::Ok(report(true, ALIGNED, false)))?;
-    step(out, s, Input::Ok(report(false, UNALIGNED, true)))?;
-    step(out, s, Input::Ok(report(true, UNALIGNED, true)))
-}
-
-fn errors<W: Write>(out: &mut W, s: EndpointState) -> io::Result<()>
-    requires { eqb (endpoint_number s) 0 ≡ false }
-{
-    step(out, s, Input::Stall(Given::At(place(ALIGNED, false))))?;
-    step(out, s, Input::Stall(Given::At(place(UNALIGNED, true))))?;
-    step(out, s, Input::Stall(Given::Nowhere))?;
-    step(
+    let taken = endpoint::step(before, input, &mut mem, 8);
+    let Taken {
+        endpoint,
+        code,
+        submit,
+        cancel,
+        stored,
+    } = taken.unwrap_or_else(|refusal| kept(before, refusal));
+    writeln!(
         out,
-        s,
-        Input::TransactionError(Given::At(place(ALIGNED, false))),
-    )?;
-    step(
-        out,
-        s,
-        Input::TransactionError(Given::At(place(UNALIGNED, true))),
-    )?;
-    step(out, s, Input::TransactionError(Given::Nowhere))?;
-    step(out, s, Input::TrbError)
+        "{} {} | {code} {} {} {stored} | {} |{}",
+        Shown(from.state),
+        Shown(input),
+        u8::from(submit),
+        u8::from(cancel),
+        Shown(endpoint),
+        Shown(mem)
+    )
 }
 
 // The nine inputs in one state.
-fn row<W: Write>(out: &mut W, s: EndpointState) -> io::Result<()>
-    requires { eqb (endpoint_number s) 0 ≡ false }
-{
-    doorbells(out, s)?;
-    commands(out, s)?;
-    completions(out, s)?;
-    errors(out, s)
+fn row<W: Write>(out: &mut W, from: Enabled) -> io::Result<()> {
+    for look in LOOKS {
+        step(out, from, Input::Doorbell(look))?;
+    }
+    step(out, from, Input::Stop)?;
+    step(out, from, Input::Reset)?;
+    for place in PLACES {
+        step(out, from, Input::SetDequeue(place))?;
+    }
+    step(out, from, Input::Terminate)?;
+    for look in LOOKS {
+        step(out, from, Input::Ok(look))?;
+    }
+    for given in GIVEN {
+        step(out, from, Input::Stall(given))?;
+    }
+    for given in GIVEN {
+        step(out, from, Input::TransactionError(given))?;
+    }
+    step(out, from, Input::TrbError)
 }
 
 // The launch of an endpoint whose context has this dequeue word.
-fn launch<W: Write>(out: &mut W, w: u64) -> io::Result<()> {
-    let mut mem = [0xeeu8; 40];
-    guest::context::store_pointer(&mut mem, 8, w);
-    let e = endpoint::launch(&mut mem, 8);
-    text(out, b"launch")?;
-    pointer(out, w)?;
-    record(out, e)?;
-    memory(out, &mem)
+fn launch<W: Write>(out: &mut W, word: u64) -> io::Result<()> {
+    let mut mem = FRESH;
+    guest::context::store_pointer(&mut mem, 8, word);
+    let endpoint = endpoint::launch(&mut mem, 8);
+    writeln!(out, "launch {word:x} | {} |{}", Shown(endpoint), Shown(mem))
 }
 
-// The end of an endpoint in a state, at a place.
-fn terminate<W: Write>(out: &mut W, s: EndpointState, d: Dequeue) -> io::Result<()> {
-    let mut mem = [0xeeu8; 40];
-    let e = Endpoint {
-        state: s,
-        cycle: d.cycle,
-        pointer: d.pointer,
-    };
-    let r = endpoint::terminate(e, &mut mem, 8);
-    let f = r.endpoint;
-    text(out, b"terminate ")?;
-    state(out, s)?;
-    text(out, b" |")?;
-    number(out, r.stored)?;
-    record(out, f)?;
-    memory(out, &mem)
+fn terminate<W: Write>(out: &mut W, before: Endpoint) -> io::Result<()> {
+    let mut mem = FRESH;
+    let Terminated { endpoint, stored } = endpoint::terminate(before, &mut mem, 8);
+    writeln!(
+        out,
+        "terminate {} | {stored} | {} |{}",
+        Shown(before.state),
+        Shown(endpoint),
+        Shown(mem)
+    )
+}
+
+fn terminations<W: Write>(out: &mut W) -> io::Result<()> {
+    terminate(out, Endpoint::DISABLED)?;
+    for state in ENABLED {
+        let enabled = Endpoint {
+            state,
+            cycle: true,
+            pointer: ALIGNED,
+        };
+        terminate(out, enabled)?;
+    }
+    Ok(())
 }
 
 fn main(rt: HostRuntime) -> io::Result<()> {
     let mut out = BufWriter::new(rt.alloc(), io::writer(&rt))?;
-    row(&mut out, EndpointState::Waiting)?;
-    row(&mut out, EndpointState::InFlight)?;
-    row(&mut out, EndpointState::Halted)?;
-    row(&mut out, EndpointState::Error)?;
-    row(&mut out, EndpointState::StoppedContinuable)?;
-    row(&mut out, EndpointState::Stopped)?;
-    launch(&mut out, 0x2341)?;
-    launch(&mut out, 0x234f)?;
-    launch(&mut out, 0x234e)?;
-    launch(&mut out, 0xffff_ffff_ffff_ffff)?;
-    terminate(&mut out, EndpointState::Disabled, place(0, false))?;
-    terminate(&mut out, EndpointState::Waiting, place(ALIGNED, true))?;
-    terminate(&mut out, EndpointState::InFlight, place(ALIGNED, true))?;
-    terminate(&mut out, EndpointState::Halted, place(ALIGNED, true))?;
-    terminate(&mut out, EndpointState::Error, place(ALIGNED, true))?;
-    terminate(
-        &mut out,
-        EndpointState::StoppedContinuable,
-        place(ALIGNED, true),
-    )?;
-    terminate(&mut out, EndpointState::Stopped, place(ALIGNED, true))?;
+    for state in ENABLED {
+        row(&mut out, Enabled { state })?;
+    }
+    for word in [0x2341, 0x234f, 0x234e, u64::MAX] {
+        launch(&mut out, word)?;
+    }
+    terminations(&mut out)?;
     out.flush()
 }

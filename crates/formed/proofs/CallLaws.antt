@@ -11,8 +11,9 @@ use Rattle.guest.proofs.RunLaws.{choose_yes}
 use Rattle.definition.specs.declared.Input.{Input}
 use Rattle.definition.specs.declared.Slot.{Slot}
 use Rattle.definition.specs.declared.Table.{Table}
-use Rattle.definition.specs.declared.Lookup.{Lookup}
-use Rattle.definition.specs.declared.Lookup.TheVariants.{Used, Nothing}
+use Rattle.std.specs.Prelude.{Option, Some, None, Ok, Err}
+use Rattle.definition.specs.declared.Refusal.{Refusal}
+use Rattle.definition.specs.Refusals.{code_of}
 use Rattle.definition.specs.declared.Outcome.{Outcome}
 use Rattle.definition.specs.Table.{slot_of, lookup, well_formed}
 use Rattle.definition.specs.Commands as commands
@@ -21,10 +22,10 @@ use Rattle.definition.specs.Calls.{disable_slot, address_device, configure_endpo
 use Rattle.definition.specs.Rules.{Opened}
 use Rattle.definition.proofs.HeadLaws.{slot_opens}
 use Rattle.scan.specs.declared.Head.{Head}
-use Rattle.scan.specs.Heads.{head_for, refusal}
+use Rattle.scan.specs.Heads.{Begun, checked, head_for, refusal}
 use Rattle.scan.specs.Records.{first_of}
 use Rattle.scan.proofs.ScanLaws.{first_is, record_is}
-use Rattle.scan.proofs.OpeningLaws.{refuses_at_once, meets_as, refuses_head, refuses_absent, head_found, head_record, opened_slot, on_slot_lem}
+use Rattle.scan.proofs.OpeningLaws.{refuses_at_once, meets_as, is_lent, refuses_head, refuses_absent, head_found, head_record, opened_slot, on_slot_lem}
 use Rattle.commands.specs.Promises.{Settles, reaching}
 use Rattle.formed.specs.Promises.{Ready}
 
@@ -64,35 +65,40 @@ reaches no_slot no_endpoint id i input = record { part = λ len t s. reaching no
 -- ---- the refusals
 
 module _ {p : ℕ → Table → Prog (Result Told)} {id absent : ℕ} (k : Slotted p id absent) {t : Table} {m : Mem} where
-  module _ (i : ℕ) {h : Head} (e : h ≡ head_for t (length m) id i) where
+  module _ (i : ℕ) {r : Begun Head} (e : r ≡ head_for t (length m) id i) where
     -- 198 or 194
-    pub head_refused : (h.code ≡ 0 → ⊥) → Settles (p (length m) t) t m (refusal t h.code) m
-    head_refused n = meets_as t (k.is (length m) t) (refuses_head t (length m) id i e absent (k.part (length m) t) m n)
+    pub head_refused : {x : Refusal} → r ≡ Err x → Settles (p (length m) t) t m (refusal t (code_of x)) m
+    head_refused z = meets_as t (k.is (length m) t) (refuses_head t (length m) id i e absent (k.part (length m) t) m z)
 
-    pub absent_refused : h.code ≡ 0 → h.found ≡ Nothing → Settles (p (length m) t) t m (refusal t absent) m
+    pub absent_refused : {h : Head} → r ≡ Ok h → h.found ≡ None → Settles (p (length m) t) t m (refusal t absent) m
     absent_refused z w = meets_as t (k.is (length m) t) (refuses_absent t (length m) id i e absent (k.part (length m) t) m z w)
 
-  pub ready_refused : Ready t m → {l : Lookup} → l ≡ lookup t id → l ≡ Nothing → Settles (p (length m) t) t m (refusal t absent) m
+  pub ready_refused : Ready t m → {l : Option Slot} → l ≡ lookup t id → l ≡ None → Settles (p (length m) t) t m (refusal t absent) m
   unfolding on_slot formed lent
   ready_refused r e w =
       refuses_at_once t m
       (k.is (length m) t
       ∙ choose_yes (well_formed t) _ _ r.formed
       ∙ choose_yes (eqb t.length (length m)) _ _ (eq-eqb _ _ r.size)
-      ∙ ap (λ (l : Lookup). found l (done (refuse absent)) (k.part (length m) t)) (sym e ∙ w))
+      ∙ ap (λ (l : Option Slot). found l (done (refuse absent)) (k.part (length m) t)) (sym e ∙ w))
+
+-- ---- a table that was checked
+
+pub ready_checked : {t : Table} {m : Mem} {r : Begun (Unit {0})} {x : Unit {0}} → r ≡ checked t (length m) → r ≡ Ok x → Ready t m
+ready_checked {t} {m} e z = let l = is_lent t (length m) e z in record { formed = l.formed; size = l.size }
 
 -- ---- a slot that was found
 
-pub head_opens : {t : Table} {m : Mem} {id : ℕ} (i : ℕ) {h : Head} {s : Slot} → h ≡ head_for t (length m) id i → h.code ≡ 0 → h.found ≡ Used s → Opened t m id s
+pub head_opens : {t : Table} {m : Mem} {id : ℕ} (i : ℕ) {r : Begun Head} {h : Head} {s : Slot} → r ≡ head_for t (length m) id i → r ≡ Ok h → h.found ≡ Some s → Opened t m id s
 head_opens {t} {m} {id} i e z w =
     let o = opened_slot t (length m) id i e z w in
     record { formed = o.formed; size = o.size; used = head_found t (length m) id i e z ∙ w }
 
 -- with the record of its endpoint 1
-pub head_first : (t : Table) (len id : ℕ) {h : Head} {s : Slot} → h ≡ head_for t len id 1 → h.code ≡ 0 → h.found ≡ Used s → h.endpoint ≡ first_of t id
+pub head_first : (t : Table) (len id : ℕ) {r : Begun Head} {h : Head} {s : Slot} → r ≡ head_for t len id 1 → r ≡ Ok h → h.found ≡ Some s → h.endpoint ≡ first_of t id
 head_first t len id e z w = head_record t len id 1 e z w ∙ record_is t id 1 refl ∙ first_is t id
 
-pub ready_opens : {t : Table} {m : Mem} {id : ℕ} {l : Lookup} {s : Slot} → Ready t m → l ≡ lookup t id → l ≡ Used s → Opened t m id s
+pub ready_opens : {t : Table} {m : Mem} {id : ℕ} {l : Option Slot} {s : Slot} → Ready t m → l ≡ lookup t id → l ≡ Some s → Opened t m id s
 ready_opens r e w = record { formed = r.formed; size = r.size; used = sym e ∙ w }
 
 -- what `reach` asks

@@ -2,7 +2,6 @@ pub mod SpliceLaws
 pub mod ListLaws
 pub mod LentLaws
 pub mod WordLaws
-pub mod CopyLaws
 pub mod BitLaws
 pub mod RunLaws
 pub mod LoopLaws

@@ -3,7 +3,7 @@
 use Rattle.std.proofs.Common.{◌≡◌, ℕ, ◌+◌, ◌<◌, ◌≤◌, Bool, true, false, cond, ◌&&◌, ◌⊎◌, List, length, sym, refl, ap, ◌∙◌, inl, inr, ⊎_elim, add-zero, add_assoc, zero-add, arith, le-leb, leb-false, leb-true}
 use borrow.Author.Tests.{lt-leb}
 use Rattle.guest.specs.Bytes.{inside, located}
-use Rattle.guest.specs.declared.Located.TheVariants.{At, Outside}
+use Rattle.std.specs.Prelude.{Some, None}
 use Rattle.guest.specs.Prog.{Mem, Prog, done, get, put, block, splice, Ran, ran, run, Ends, choose, bind, Result, ok, refuse, need, passed, and_then}
 
 -- a refusal is no value
@@ -71,22 +71,22 @@ need_no len a n p h = choose_no (inside len a n) p (done (refuse 193)) (is_outsi
 
 module _ (len a n : ℕ) where
   -- it stands at its address, and lies in memory
-  pub located_at : {i : ℕ} → located len a n ≡ At i → (i ≡ a) × (inside len a n ≡ true)
+  pub located_at : {i : ℕ} → located len a n ≡ Some i → (i ≡ a) × (inside len a n ≡ true)
   located_at {i} e = by (inside len a n) refl e
     where
-      by : (b : Bool) → inside len a n ≡ b → cond b (At a) Outside ≡ At i → (i ≡ a) × (inside len a n ≡ true)
+      by : (b : Bool) → inside len a n ≡ b → cond b (Some a) None ≡ Some i → (i ≡ a) × (inside len a n ≡ true)
       by true h e = (cc, h)
       by false h e = let z : ◌≡◌ {A = ℕ} 0 1 = cc in absurd (omega arith)
 
   -- so the index can be read at
-  pub located_fits : {i : ℕ} → located len a n ≡ At i → i + n ≤ len
+  pub located_fits : {i : ℕ} → located len a n ≡ Some i → i + n ≤ len
   located_fits e = let p = located_at e in omega (arith, p.0, inside_yes len a n p.1)
 
   -- it does not lie in memory
-  pub located_outside : located len a n ≡ Outside → inside len a n ≡ false
+  pub located_outside : located len a n ≡ None → inside len a n ≡ false
   located_outside e = by (inside len a n) refl e
     where
-      by : (b : Bool) → inside len a n ≡ b → cond b (At a) Outside ≡ Outside → inside len a n ≡ false
+      by : (b : Bool) → inside len a n ≡ b → cond b (Some a) None ≡ None → inside len a n ≡ false
       by true h e = let z : ◌≡◌ {A = ℕ} 0 1 = cc in absurd (omega arith)
       by false h e = h
 

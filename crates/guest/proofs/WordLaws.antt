@@ -1,8 +1,10 @@
 -- Laws of numbers as bytes.
 -- Assumes nothing.
-use Rattle.std.proofs.Common.{◌≡◌, ℕ, zero, suc, ◌+◌, ◌*◌, ◌/◌, ◌%◌, ◌^◌, ◌<◌, ◌≤◌, List, [], ◌∷◌, ◌++◌, length, get_or, take, drop, sym, refl, ap, ◌∙◌, add-zero, mul_assoc, mul_comm, suc-add, pow-suc, mul-zero, zero-add, div-one, arith, lit<, drop-cons, drop-drop, take-add}
+use Rattle.std.proofs.Common.{◌≡◌, ℕ, zero, suc, ◌+◌, ◌*◌, ◌/◌, ◌%◌, ◌^◌, ◌<◌, ◌≤◌, List, [], ◌∷◌, ◌++◌, length, get_or, take, sym, refl, ap, ◌∙◌, add-zero, mul_assoc, mul_comm, suc-add, pow-suc, mul-zero, zero-add, div-one, arith, lit<, drop-cons, take_all}
 use native.Mathlib.Nat.{mod-one, div-div-eq-div-mul}
 use lib.Arith.{mod-mul}
+use Rattle.std.specs.Int.{from_le_bytes, to_le_bytes}
+use Rattle.std.proofs.Common.{w32, w64}
 use Rattle.guest.specs.Bytes.{number, bytes}
 use Rattle.guest.specs.Prog.{Mem, block, splice}
 use Rattle.guest.proofs.SpliceLaws.{block_length}
@@ -72,21 +74,6 @@ unfolding number
 number_four l h =
     omega (arith, number_first 3 l 0 (omega arith), number_first 2 l 1 (omega arith), number_first 1 l 2 (omega arith), number_first 0 l 3 (omega arith))
 
--- eight bytes from two times four
-pub number_eight : (m : Mem) (a low high : ℕ) → a + 8 ≤ length m → low ≡ number (block m a 4) → high ≡ number (block m (a + 4) 4)
-    → low + 4294967296 * high ≡ number (block m a 8)
-number_eight m a low high h d e =
-    let n : length (block m a 4) ≡ 4 = block_length m a 4 (omega arith) in
-    rw (d, e, take-add 4 4 (drop a m), drop-drop 4 a m, number_append (block m a 4) (block m (a + 4) 4), n)
-
--- the four bytes of a number of 32 bits, each by its own division
-pub bytes_four : (x : ℕ) → x < 2 ^ 32 → bytes 4 x ≡ x % 256 ∷ x / 256 % 256 ∷ x / 65536 % 256 ∷ x / 16777216 ∷ []
-unfolding bytes
-bytes_four x h =
-    let a : x / 65536 ≡ x / 256 / 256 = omega arith in
-    let b : x / 16777216 ≡ x / 256 / 256 / 256 % 256 = omega arith in
-    rw (a, b)
-
 -- a store right behind another is one store
 pub splice_join : (m : Mem) (a : ℕ) (bs cs : List ℕ) → splice (splice m a bs) (a + length bs) cs ≡ splice m a (bs ++ cs)
 unfolding splice
@@ -95,11 +82,43 @@ splice_join (x ∷ m) (suc a) bs cs = rw (suc-add a (length bs), splice_join m a
 splice_join (x ∷ m) zero [] cs = refl
 splice_join (x ∷ m) zero (b ∷ bs) cs = rw (zero-add (suc (length bs))) (ap (λ (l : Mem). b ∷ l) (ap (λ (k : ℕ). splice (splice m zero bs) k cs) (sym (zero-add (length bs))) ∙ splice_join m zero bs cs))
 
--- eight bytes as two times four
-pub splice_eight : (m m₁ m₂ : Mem) (a x : ℕ) → m₁ ≡ splice m a (bytes 4 (x % 4294967296)) → m₂ ≡ splice m₁ (a + 4) (bytes 4 (x / 4294967296))
-    → m₂ ≡ splice m a (bytes 8 x)
-splice_eight m m₁ m₂ a x d e =
-    let low : bytes 4 (x % 4294967296) ≡ bytes 4 x = bytes_low 4 x in
-    rw (e, d, low, bytes_append 4 4 x)
-    (ap (λ (k : ℕ). splice (splice m a (bytes 4 x)) (a + k) (bytes 4 (x / 4294967296))) (sym (bytes_length 4 x))
-    ∙ splice_join m a (bytes 4 x) (bytes 4 (x / 4294967296)))
+-- ---- as the library reads and writes words
+
+pub number_four_at : (m : Mem) (a : ℕ) → a + 4 ≤ length m → from_le_bytes w32 (block m a 4) ≡ number (block m a 4)
+number_four_at m a h =
+    let n : length (block m a 4) ≡ 4 = block_length m a 4 h in
+    let e : take 4 (block m a 4) ≡ block m a 4 = take_all 4 (block m a 4) (omega (arith, n)) in
+    omega (arith, rw e at (number_four (block m a 4) (omega (arith, n))))
+
+number_eight_of : (l : List ℕ) → 8 ≤ length l → from_le_bytes w64 l ≡ number (take 8 l)
+unfolding number
+number_eight_of l h =
+    omega (
+      arith,
+      number_first 7 l 0 (omega arith),
+      number_first 6 l 1 (omega arith),
+      number_first 5 l 2 (omega arith),
+      number_first 4 l 3 (omega arith),
+      number_first 3 l 4 (omega arith),
+      number_first 2 l 5 (omega arith),
+      number_first 1 l 6 (omega arith),
+      number_first 0 l 7 (omega arith),
+    )
+
+pub number_eight_at : (m : Mem) (a : ℕ) → a + 8 ≤ length m → from_le_bytes w64 (block m a 8) ≡ number (block m a 8)
+number_eight_at m a h =
+    let n : length (block m a 8) ≡ 8 = block_length m a 8 h in
+    let e : take 8 (block m a 8) ≡ block m a 8 = take_all 8 (block m a 8) (omega (arith, n)) in
+    rw e at (number_eight_of (block m a 8) (omega (arith, n)))
+
+-- the bytes of a number of 64 bits
+pub bytes_eight : (x : ℕ) → to_le_bytes w64 x ≡ bytes 8 x
+unfolding bytes
+bytes_eight x =
+    let a : x / 65536 ≡ x / 256 / 256 = omega arith in
+    let b : x / 16777216 ≡ x / 256 / 256 / 256 = omega arith in
+    let c : x / 4294967296 ≡ x / 256 / 256 / 256 / 256 = omega arith in
+    let d : x / 1099511627776 ≡ x / 256 / 256 / 256 / 256 / 256 = omega arith in
+    let e : x / 281474976710656 ≡ x / 256 / 256 / 256 / 256 / 256 / 256 = omega arith in
+    let f : x / 72057594037927936 ≡ x / 256 / 256 / 256 / 256 / 256 / 256 / 256 = omega arith in
+    rw (a, b, c, d, e, f) refl

@@ -1,8 +1,6 @@
 -- Bytes, addresses and bits, in plain arithmetic.
 -- Assumes nothing.
-use Rattle.std.specs.Prelude.{ℕ, zero, suc, ◌+◌, ◌-◌, ◌*◌, ◌/◌, ◌%◌, ◌^◌, Bool, cond, List, [], ◌∷◌, ◌==◌, nat_le}
-use Rattle.guest.specs.declared.Located.{Located}
-use Rattle.guest.specs.declared.Located.TheVariants.{At, Outside}
+use Rattle.std.specs.Prelude.{Option, Some, None, ℕ, zero, suc, ◌+◌, ◌-◌, ◌*◌, ◌/◌, ◌%◌, ◌^◌, Bool, cond, List, [], ◌∷◌, ◌==◌, nat_le}
 
 -- the number that bytes stand for, the low byte first
 unfoldable pub number : List ℕ → ℕ
@@ -24,8 +22,8 @@ unfoldable pub inside : ℕ → ℕ → ℕ → Bool
 inside len a n = nat_le (a + n) len
 
 -- where the n bytes at an address stand in the lent memory of len bytes, if they lie in it
-abbrev pub located : ℕ → ℕ → ℕ → Located
-located len a n = cond (inside len a n) (At a) Outside
+abbrev pub located : ℕ → ℕ → ℕ → Option ℕ
+located len a n = cond (inside len a n) (Some a) None
 
 -- bit i of x is set
 abbrev pub bit : ℕ → ℕ → Bool

@@ -1,8 +1,6 @@
 // Guest addresses. This is the one place where an address becomes an index of the lent memory.
 ghost use Rattle.std.specs.Prelude.{◌≡◌};
-ghost use Rattle.guest.specs.Bytes.{◌⊕◌, located};
-
-use crate::Located;
+ghost use Rattle.guest.specs.Bytes.{◌⊕◌, inside, located};
 
 // An address and an offset. The sum wraps.
 pub fn plus(address: u64, offset: u64) -> u64
@@ -18,14 +16,16 @@ pub fn index(address: u64) -> usize
     address as usize
 }
 
+// The `count` bytes at an address lie wholly in a memory of `length` bytes.
+pub fn inside(length: u64, address: u64, count: u64) -> bool
+    ensures { result ≡ inside length address count }
+{
+    count <= length && address <= length - count
+}
+
 // The index of `count` bytes at an address, in a memory of `length` bytes.
-pub fn locate(address: u64, count: u64, length: u64) -> Located
+pub fn locate(address: u64, count: u64, length: u64) -> Option<usize>
     ensures { result ≡ located length address count }
 {
-    if count <= length {
-        if address <= length - count {
-            return Located::At(index(address));
-        }
-    }
-    Located::Outside
+    inside(length, address, count).then(|| index(address))
 }

@@ -1,12 +1,24 @@
 // Bytes and words at an index of memory, little-endian.
-ghost use Rattle.std.specs.Prelude.{◌≡◌, ◌+◌, ◌<◌, ◌≤◌, [], ◌∷◌, length, take};
+ghost use Rattle.std.specs.Prelude.{◌≡◌, ◌+◌, ◌≤◌, [], ◌∷◌, length};
 ghost use Rattle.guest.specs.Bytes.{number, bytes};
 ghost use Rattle.guest.specs.Prog.{block, splice};
 
-fn wide(b: u8) -> u32
-    ensures { (result ≡ b) × (result < 256) }
+// The N bytes at an index.
+pub fn load<const N: usize>(mem: &[u8], at: usize) -> [u8; N]
+    requires { at + N ≤ length mem.now }
+    ensures { result ≡ block mem.now at N }
 {
-    b as u32
+    let mut part = [0u8; N];
+    part.copy_from_slice(&mem[at..at + N]);
+    part
+}
+
+// Bytes, stored at an index.
+pub fn store(mem: &mut [u8], at: usize, part: &[u8])
+    requires { at + length part.now ≤ length mem.old }
+    ensures { mem.new ≡ splice mem.old at part.now }
+{
+    mem[at..at + part.len()].copy_from_slice(part);
 }
 
 // The byte at an index.
@@ -17,20 +29,12 @@ pub fn read_byte(mem: &[u8], at: usize) -> u8
     mem[at]
 }
 
-// The number in the first 4 bytes.
-fn first_u32(s: &[u8]) -> u32
-    requires { 4 ≤ length s.now }
-    ensures { result ≡ number (take 4 s.now) }
-{
-    wide(s[0]) + 0x100 * wide(s[1]) + 0x1_0000 * wide(s[2]) + 0x100_0000 * wide(s[3])
-}
-
 // The number in the 4 bytes at an index.
 pub fn read_u32(mem: &[u8], at: usize) -> u32
     requires { at + 4 ≤ length mem.now }
     ensures { result ≡ number (block mem.now at 4) }
 {
-    first_u32(&mem[at..])
+    u32::from_le_bytes(load(mem, at))
 }
 
 // The number in the 8 bytes at an index.
@@ -38,9 +42,7 @@ pub fn read_u64(mem: &[u8], at: usize) -> u64
     requires { at + 8 ≤ length mem.now }
     ensures { result ≡ number (block mem.now at 8) }
 {
-    let low = read_u32(mem, at);
-    let high = read_u32(mem, at + 4);
-    (low as u64) + 0x1_0000_0000 * (high as u64)
+    u64::from_le_bytes(load(mem, at))
 }
 
 // One byte, stored at an index.
@@ -51,29 +53,10 @@ pub fn store_byte(mem: &mut [u8], at: usize, byte: u8)
     mem[at] = byte;
 }
 
-fn put_u32(part: &mut [u8], x: u32)
-    requires { 4 ≤ length part.old }
-    ensures { part.new ≡ splice part.old 0 (bytes 4 x) }
-{
-    part[0] = (x % 256) as u8;
-    part[1] = (x / 0x100 % 256) as u8;
-    part[2] = (x / 0x1_0000 % 256) as u8;
-    part[3] = (x / 0x100_0000) as u8;
-}
-
-// A number, stored in the 4 bytes at an index.
-fn store_u32(mem: &mut [u8], at: usize, x: u32)
-    requires { at + 4 ≤ length mem.old }
-    ensures { mem.new ≡ splice mem.old at (bytes 4 x) }
-{
-    put_u32(&mut mem[at..], x);
-}
-
 // A number, stored in the 8 bytes at an index.
 pub fn store_u64(mem: &mut [u8], at: usize, x: u64)
     requires { at + 8 ≤ length mem.old }
     ensures { mem.new ≡ splice mem.old at (bytes 8 x) }
 {
-    store_u32(mem, at, (x % 0x1_0000_0000) as u32);
-    store_u32(mem, at + 4, (x / 0x1_0000_0000) as u32);
+    store(mem, at, &x.to_le_bytes());
 }

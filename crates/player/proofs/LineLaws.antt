@@ -1,18 +1,20 @@
 -- Numbers in decimal, one behind the other.
 -- Assumes nothing.
-use mathlib.Core.Path.{◌≡◌, refl, sym, ap, subst, ◌∙◌}
+use mathlib.Core.Path.{◌≡◌, sym, ap, subst, ◌∙◌}
 use mathlib.Core.List.{List, [], ◌∷◌, ◌++◌, append_assoc}
 use Prim.Native.Nat.{ℕ, ◌+◌, ◌-◌, ◌*◌, ◌^◌, ◌≤◌, ◌<◌}
 use native.Mathlib.Nat.{pow-le-pow_right}
 use native.Mathlib.Numerals.{add-one}
+use Rattle.std.proofs.Common.{zero-add}
+use Rattle.std.proofs.lemmas.Grind.{common_steps}
 use native.Mathlib.Omega.{arith}
 use native.Mathlib.Decide.{dec_le}
-use lib.ListN.{length, take, set, get_or, length-append}
+use lib.ListN.{length, take, drop, set, get_or, length-append}
 use lib.Seq.{take-suc}
 use borrow.Rule.Slice.PartMut.{mid_of, put_mid}
 use Rattle.io.specs.Digits.{last_digits, IsDigitCount}
 use Rattle.guest.specs.Prog.{splice}
-use Rattle.guest.proofs.SpliceLaws.{splice_sets, splice_length}
+use Rattle.guest.proofs.SpliceLaws.{splice_sets, splice_length, splice_parts}
 use Rattle.guest.proofs.WordLaws.{splice_join}
 use Rattle.guest.proofs.LentLaws.{lent}
 use Rattle.player.specs.Lines.{Spaced, one, more, PutsNumber, PutsLine}
@@ -28,17 +30,17 @@ few_digits n r h f = by (dec_le r 20)
         let q : 10 ^ (r - 1) ≤ n = f.2 (omega arith) in
         absurd (omega (arith, p, q, h))
 
--- all of a number's digits were put
-pub puts_number : (n : ℕ) (l : List ℕ) (r : ℕ) (l' ds : List ℕ) (i : ℕ) → n < 2 ^ 64 → IsDigitCount 10 1 n r → r ≡ length (take r ds) → take r ds ≡ last_digits 10 r n
-    → r ≤ i → i ≤ r → l' ≡ splice l 0 (take i ds) → PutsNumber n l r l'
-puts_number n l r l' ds i h f k d a b e =
-    let same : i ≡ r = omega arith in
+-- a number's digits were put before what stays of l
+pub puts_number : (n : ℕ) (l : List ℕ) (r : ℕ) (ds : List ℕ) → n < 2 ^ 64 → 20 ≤ length l → IsDigitCount 10 1 n r → r ≡ length ds → ds ≡ last_digits 10 r n
+    → PutsNumber n l r (ds ++ drop r l)
+puts_number n l r ds h w f k d =
+    let few : r ≤ 20 = few_digits n r h f in
     record {
-      few = few_digits n r h f;
-      bytes = last_digits 10 r n;
-      decimal = record { count = r; fewest = f; spelt = refl };
-      count = k ∙ ap (λ (x : List ℕ). length x) d;
-      text = e ∙ ap (λ (j : ℕ). splice l 0 (take j ds)) same ∙ ap (splice l 0) d;
+      few = few;
+      bytes = ds;
+      decimal = record { count = r; fewest = f; spelt = d };
+      count = k;
+      text = ap (λ (j : ℕ). ds ++ drop j l) (k ∙ sym (zero-add (length ds))) ∙ sym (splice_parts l 0 ds (omega arith));
     }
 
 -- bytes behind those that stand at the start
@@ -58,6 +60,13 @@ pub record Lining (ns l : List ℕ) (end i : ℕ) (l' : List ℕ) : Type 0 where
   pub spaced : Spaced (take i ns) bytes
   pub count : end ≡ length bytes
   pub text : l' ≡ splice l 0 bytes
+
+-- among the first m numbers behind the first one
+pub number_behind : (m : ℕ) (ns : List ℕ) (k : ℕ) → k < length (take m (drop 1 ns)) → get_or (take m (drop 1 ns)) k 0 ≡ get_or ns (k + 1) 0
+number_behind m ns k h = grind (arith, common_steps)
+
+pub count_behind : (m : ℕ) (ns : List ℕ) → 8 ≤ length ns → m ≤ 7 → length (take m (drop 1 ns)) ≡ m
+count_behind m ns h w = grind (arith, common_steps)
 
 pub lining_begins : {ns l : List ℕ} {r : ℕ} {l' : List ℕ} → 168 ≤ length l → 8 ≤ length ns → PutsNumber (get_or ns 0 0) l r l' → Lining ns l r 1 l'
 lining_begins {ns} {l} w h p =
@@ -79,12 +88,13 @@ module _ {ns l : List ℕ} {end i : ℕ} {l' : List ℕ} (g : Lining ns l end i 
   ended : (b : ℕ) → set l' end b ≡ splice l 0 (g.bytes ++ (b ∷ []))
   ended b = sym (splice_sets l' end (b ∷ [])) ∙ behind l l' g.bytes (b ∷ []) g.text g.count
 
-  -- a space and number i
-  pub lining_goes : i < 8 → 8 ≤ length ns → {r : ℕ} {ys : List ℕ} (s : List ℕ) → s ≡ set l' end 32
-      → PutsNumber (get_or ns i 0) (mid_of (end + 1) (length s - (end + 1)) s) r ys
+  -- a space and number i, which is x
+  pub lining_goes : i < 8 → 8 ≤ length ns → (x : ℕ) → x ≡ get_or ns i 0 → {r : ℕ} {ys : List ℕ} (s : List ℕ) → s ≡ set l' end 32
+      → PutsNumber x (mid_of (end + 1) (length s - (end + 1)) s) r ys
       → Lining ns l (end + 1 + r) (i + 1) (put_mid (end + 1) (length s - (end + 1)) s ys)
-  lining_goes h k {r} {ys} s e p =
-      let next : take (i + 1) ns ≡ take i ns ++ (get_or ns i 0 ∷ []) = ap (λ (j : ℕ). take j ns) (add-one i) ∙ take-suc ns i 0 (omega arith) in
+  lining_goes h k x f {r} {ys} s e p =
+      let next : take (i + 1) ns ≡ take i ns ++ (x ∷ []) =
+      ap (λ (j : ℕ). take j ns) (add-one i) ∙ take-suc ns i 0 (omega arith) ∙ ap (λ (y : ℕ). take i ns ++ (y ∷ [])) (sym f) in
       let here : s ≡ splice l 0 (g.bytes ++ (32 ∷ [])) = e ∙ ended 32 in
       let long : length (g.bytes ++ (32 ∷ [])) ≡ length g.bytes + 1 = length-append g.bytes (32 ∷ []) in
       let size : length s ≡ length l = ap (λ (x : List ℕ). length x) here ∙ splice_length l 0 (g.bytes ++ (32 ∷ [])) in

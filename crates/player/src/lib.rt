@@ -3,32 +3,24 @@
 #![tactic(auto)]
 
 ghost use Rattle.std.specs.Prelude.{◌+◌, ◌*◌, ◌≤◌, length, IfOk};
+ghost use Rattle.std.specs.ControlFlow.{MatchControlFlow};
 ghost use Rattle.formed.specs.Promises.{Ready};
 ghost use Rattle.io.specs.Counts.{IsPrefixLen};
 ghost use Rattle.player.specs.Lines.{PutsNumber, PutsLine};
 
 use definition::Table;
 use std::io::{Read, Write};
-
-// What the next part is replayed from, and whether there is one.
-#[derive(Clone, Copy)]
-struct Played {
-    table: Table,
-    more: bool,
-}
+use std::ops::ControlFlow;
 
 // A number's decimal digits go to the start of `part`. It answers how many there are.
+// Not by `write!`: std's writer over a slice promises how many bytes it took, and not which.
 pub fn put_number(part: &mut [u8], n: u64) -> usize
     requires { 20 ≤ length part.old }
     ensures { PutsNumber n part.old result part.new }
 {
     let mut digits = [0u8; 20];
     let count = io::decimal(n, &mut digits);
-    let mut i: usize = 0;
-    while i < count {
-        part[i] = digits[i];
-        i += 1;
-    }
+    part[..count].copy_from_slice(&digits[..count]);
     count
 }
 
@@ -39,18 +31,17 @@ fn put_line(part: &mut [u8], numbers: &[u64]) -> usize
     ensures { PutsLine numbers.now part.old result part.new }
 {
     let mut end = put_number(part, numbers[0]);
-    let mut i: usize = 1;
-    while i < 8 {
+    for n in &numbers[1..8] {
         part[end] = b' ';
         let at = end + 1;
-        end = at + put_number(&mut part[at..], numbers[i]);
-        i += 1;
+        end = at + put_number(&mut part[at..], *n);
     }
     part[end] = b'\n';
     end + 1
 }
 
 // The `end` bytes of text are written where a line more may not fit behind them. It answers where the next line begins.
+// A lent buffer with `end` beside it: docs/CLAIMS.md names `put_line` (`PutsLine`), whose promise is about the bytes of a lent buffer.
 fn flush<W: Write>(out: &mut W, text: &[u8], end: usize) -> std::io::Result<usize>
     requires { (168 ≤ length text.now) × (end ≤ length text.now) }
     ensures { IfOk result (λ start. start + 168 ≤ length text.now) }
@@ -73,12 +64,9 @@ pub fn show<W: Write>(
     requires answered { 8 * count ≤ length answers.now }
 {
     let mut end: usize = 0;
-    let mut n: usize = 0;
-    while n < count {
+    for numbers in answers[..8 * count].chunks_exact(8) {
         let start = flush(out, text, end)?;
-        let at = 8 * n;
-        end = start + put_line(&mut text[start..], &answers[at..]);
-        n += 1;
+        end = start + put_line(&mut text[start..], numbers);
     }
     out.write_all(&text[..end])
 }
@@ -87,6 +75,7 @@ pub fn show<W: Write>(
 pub fn read_full<R: Read>(input: &mut R, buf: &mut [u8]) -> std::io::Result<usize>
     ensures { IfOk result (λ n. IsPrefixLen n buf.new) }
 {
+    // Not std's `read_exact`: it does not tell how many bytes came before the input ended.
     let mut done: usize = 0;
     while done < buf.len() {
         let n = input.read(&mut buf[done..])?;
@@ -99,6 +88,7 @@ pub fn read_full<R: Read>(input: &mut R, buf: &mut [u8]) -> std::io::Result<usiz
 }
 
 // One part of the trace is read and replayed, and its lines are written. The table stays such that the next part is not refused.
+// It breaks off with a bad record, and with the end of the input.
 fn part<R: Read, W: Write>(
     input: &mut R,
     out: &mut W,
@@ -107,39 +97,33 @@ fn part<R: Read, W: Write>(
     records: &mut [u8],
     answers: &mut [u64],
     text: &mut [u8],
-) -> std::io::Result<Played>
+) -> std::io::Result<ControlFlow<Table, Table>>
     requires ready { Ready t mem.old }
     requires rooms { (length records.old ≤ 65536) × (16384 ≤ length answers.old) × (168 ≤ length text.old) }
-    ensures { IfOk result (λ p. Ready p.table mem.new) }
+    ensures { IfOk result (λ p. MatchControlFlow p (λ u. Ready u mem.new) (λ u. Ready u mem.new)) }
 {
     let count = read_full(input, records)?;
-    let r = session::run(t, mem, &records[..count], answers);
-    show(out, text, answers, r.answered)?;
-    let u = r.table;
-    if r.bad {
+    let ran = session::run(t, mem, &records[..count], answers).unwrap();
+    show(out, text, answers, ran.answered)?;
+    if ran.bad {
         out.write_all(b"bad record\n")?;
-        return Ok(Played {
-            table: u,
-            more: false,
-        });
+        return Ok(ControlFlow::Break(ran.table));
     }
-    Ok(Played {
-        table: u,
-        more: count == records.len(),
-    })
+    if count < records.len() {
+        return Ok(ControlFlow::Break(ran.table));
+    }
+    Ok(ControlFlow::Continue(ran.table))
 }
 
-// The whole trace. A proved loop has to end, and nothing says that an input does: so the loop counts its turns down, from a number that no run uses up.
+// The whole trace. A proved loop has to end, and nothing says that an input does: so the loop has a last turn, which no run comes to.
 pub fn replay<R: Read, W: Write>(input: &mut R, out: &mut W) -> std::io::Result<()> {
-    let made = slot_manager::make_table(65536);
-    let mut t = made.table;
+    let mut t = slot_manager::make_table(65536).table;
     let mut mem = [0u8; 65536];
     let mut records = [0u8; 65536];
     let mut answers = [0u64; 16384];
     let mut text = [0u8; 65536];
-    let mut turns = u64::MAX;
-    while turns > 0 {
-        let p = part(
+    for _ in 0..u64::MAX {
+        let ControlFlow::Continue(next) = part(
             input,
             out,
             t,
@@ -147,12 +131,11 @@ pub fn replay<R: Read, W: Write>(input: &mut R, out: &mut W) -> std::io::Result<
             &mut records,
             &mut answers,
             &mut text,
-        )?;
-        t = p.table;
-        if !p.more {
+        )?
+        else {
             return Ok(());
-        }
-        turns -= 1;
+        };
+        t = next;
     }
     Ok(())
 }

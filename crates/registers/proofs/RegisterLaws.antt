@@ -1,17 +1,18 @@
 -- What the calls that are lent no memory end in, on a well formed table.
 -- Assumes nothing.
-use mathlib.Core.Path.{◌≡◌, refl, sym, ◌∙◌}
+use mathlib.Core.Path.{◌≡◌, refl, ◌∙◌}
 use mathlib.Core.Bool.{Bool, true, false}
 use mathlib.Core.List.{List, [], ◌∷◌}
-use Prim.Native.Nat.{ℕ, ◌+◌, ◌-◌, ◌*◌, ◌≤◌, ◌<◌}
-use native.Mathlib.Omega.{arith}
+use Prim.Native.Nat.{ℕ, zero, suc, ◌+◌, ◌-◌, ◌*◌, ◌≤◌, ◌<◌}
 use borrow.Author.Tests.{le-leb, lt-leb, eq-eqb}
 use lib.Dec.{leb, eqb}
 use lib.ListN.{length, get_or}
+use Rattle.std.specs.List.{find, range_with_len}
+use Rattle.std.specs.Option.{option_map}
+use Rattle.std.specs.Prelude.{Option, Some, None}
 use Rattle.guest.specs.Bytes.{◌⊕◌, count, those}
 use Rattle.guest.specs.Prog.{Mem, done, ok, refuse}
 use Rattle.guest.proofs.RunLaws.{choose_yes, choose_no, ends_done, ends_value}
-use Rattle.guest.proofs.ListLaws.{All, all_map, count_all, count_none, count_first, those_yes, those_no, those_all, all_head}
 use Rattle.definition.specs.declared.Slot.{Slot}
 use Rattle.definition.specs.declared.Table.{Table}
 use Rattle.definition.specs.declared.SlotState.TheVariants.{Enabled}
@@ -25,37 +26,30 @@ use Rattle.scan.specs.Heads.{refusal}
 use Rattle.scan.proofs.OpeningLaws.{meets_ok, refuses_at_once, passes_formed, meets_as}
 use Rattle.registers.specs.Promises.{AnswersAlone, first_of, first_free}
 
--- ---- the scan for a free id
+-- ---- the look for a free id
 
-abbrev Free : List Slot → ℕ → Bool
+abbrev pub Free : List Slot → ℕ → Bool
 Free slots id = is_free (get_or slots (id - 1) free)
 
--- the ids from `id` to the limit are still to be looked at
-abbrev Rest : List Slot → ℕ → ℕ → ℕ
-Rest slots limit id = first_of (those (Free slots) (count (limit + 1 - id) id))
+found_from : (f : ℕ → Bool) (n id : ℕ) → find f (range_with_len id n) ≡ first_of (those f (count n id))
+unfolding count those
+found_from f zero id = refl
+found_from f (suc n) id = by (f id) refl (found_from f n (id + 1))
+  where
+    by : (b : Bool) → f id ≡ b → find f (range_with_len (id + 1) n) ≡ first_of (those f (count n (id + 1)))
+        → find f (range_with_len id (suc n)) ≡ first_of (those f (count (suc n) id))
+    by true e rest = rw e
+    by false e rest = rw (e, rest)
 
--- none before `id` is free
-pub record Sought (slots : List Slot) (limit id : ℕ) : Type 0 where
-  pub low : 1 ≤ id
-  pub high : id ≤ limit + 1
-  pub rest : first_free slots limit ≡ Rest slots limit id
+-- what is found is a number as it is
+pub same_found : (r : Option ℕ) {o : Option ℕ} → option_map (λ (x : ℕ). x) r ≡ o → r ≡ o
+same_found None e = e
+same_found (Some x) e = e
 
-pub sought_begins : (slots : List Slot) (limit : ℕ) → Sought slots limit 1
+-- the first of the ids from 1 on that is free
+pub found_first : (slots : List Slot) (limit : ℕ) → find (Free slots) (range_with_len 1 limit) ≡ first_free slots limit
 unfolding first_free
-sought_begins slots limit = let e : limit + 1 - 1 ≡ limit = omega arith in record { low = omega arith; high = omega arith; rest = rw e }
-
-module _ {slots : List Slot} {limit id : ℕ} (s : Sought slots limit id) where
-  pub sought_found : id ≤ limit → Free slots id ≡ true → id ≡ first_free slots limit
-  sought_found h f = sym (s.rest ∙ rw (count_first (limit + 1) id (omega arith), those_yes (Free slots) id (count (limit + 1 - (id + 1)) (id + 1)) f))
-
-  pub sought_next : id ≤ limit → Free slots id ≡ false → Sought slots limit (id + 1)
-  sought_next h f =
-      let e : Rest slots limit id ≡ Rest slots limit (id + 1) = rw (count_first (limit + 1) id (omega arith), those_no (Free slots) id (count (limit + 1 - (id + 1)) (id + 1)) f) in
-      record { low = omega arith; high = omega arith; rest = s.rest ∙ e }
-
-  pub sought_none : limit < id → 0 ≡ first_free slots limit
-  unfolding those
-  sought_none h = sym (s.rest ∙ rw (count_none (limit + 1 - id) id (omega arith)))
+found_first slots limit = found_from (Free slots) limit 1
 
 -- ---- the calls
 
@@ -73,32 +67,29 @@ module _ (t : Table) (f : well_formed t ≡ true) where
   dcbaap_set a m = meets_as t (passes_formed t refl _ f) (meets_ok t (ends_done _ m 0))
 
   -- ids are what the scan leaves
-  enable_one_lem : (ids : List ℕ) (id : ℕ) → id ≡ first_of ids → (id ≡ 0 → ⊥) → enable_one t ids ≡ done (ok (
+  enable_one_lem : (ids : List ℕ) (id : ℕ) → Some id ≡ first_of ids → enable_one t ids ≡ done (ok (
     record { code = 1; slot = id; launched = 0; terminated = 0; port = 0; stored = 0; submit = 0; cancel = 0 },
     with_slot t id (record { state = Enabled; base = 0; entry = t.dcbaap ⊕ 8 * id }),
   ))
   unfolding enable_one
-  enable_one_lem [] id e n = absurd (n e)
-  enable_one_lem (j ∷ ids) id e n = rw e
+  enable_one_lem [] id e = cc
+  enable_one_lem (j ∷ ids) id e = let q : j ≡ id = cc in rw q
 
-  pub enabled : (id : ℕ) → id ≡ first_free t.slots t.limit → (id ≡ 0 → ⊥) → AnswersAlone enable_slot t (record {
+  pub enabled : (id : ℕ) → Some id ≡ first_free t.slots t.limit → AnswersAlone enable_slot t (record {
     table = with_slot t id (record { state = Enabled; base = 0; entry = t.dcbaap ⊕ 8 * id });
     answer = record { code = 1; slot = id; launched = 0; terminated = 0; port = 0; stored = 0; submit = 0; cancel = 0 };
   })
   unfolding prog meaning commands.enable_slot first_free slot_of
-  enabled id e n m = meets_as t (passes_formed t refl _ f ∙ enable_one_lem _ id e n) (meets_ok t (ends_done _ m 0))
+  enabled id e m = meets_as t (passes_formed t refl _ f ∙ enable_one_lem _ id e) (meets_ok t (ends_done _ m 0))
 
-  -- an id that the scan finds is 1 at least
-  none_first : (ids : List ℕ) → All (λ i. 1 ≤ i) ids → first_of ids ≡ 0 → enable_one t ids ≡ done (refuse 9)
+  none_first : (ids : List ℕ) → None ≡ first_of ids → enable_one t ids ≡ done (refuse 9)
   unfolding enable_one
-  none_first [] h e = refl
-  none_first (j ∷ ids) h e = let g = (all_head h).0 in absurd (omega arith)
+  none_first [] e = refl
+  none_first (j ∷ ids) e = cc
 
-  pub none_free : first_free t.slots t.limit ≡ 0 → AnswersAlone enable_slot t (refusal t 9)
+  pub none_free : None ≡ first_free t.slots t.limit → AnswersAlone enable_slot t (refusal t 9)
   unfolding prog meaning commands.enable_slot first_free slot_of
-  none_free e m =
-      let all = those_all (λ i. 1 ≤ i) (Free t.slots) (count t.limit 1) (count_all (λ i. 1 ≤ i) t.limit 1 (λ j a b. a)) in
-      refuses_at_once t m (passes_formed t refl _ f ∙ none_first _ (all_map (λ i p. p.0) all) e)
+  none_free e m = refuses_at_once t m (passes_formed t refl _ f ∙ none_first _ e)
 
 -- ---- reset of all slots
 

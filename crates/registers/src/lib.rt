@@ -2,40 +2,12 @@
 // Only reset of all slots is lent memory: what the others promise holds over any.
 #![tactic(auto)]
 
-ghost use Rattle.std.specs.Prelude.{◌≡◌, true, ◌≤◌, length};
+ghost use Rattle.std.specs.Prelude.{◌≡◌, true, ◌≤◌, length, IfSome};
 ghost use Rattle.definition.specs.Table.{fresh_table, well_formed};
-ghost use Rattle.definition.specs.Commands.{answer};
 ghost use Rattle.definition.specs.Calls.{set_limit, set_dcbaap, enable_slot, reset_all, prog, made, Meets};
 ghost use Rattle.registers.specs.Promises.{AnswersAlone, first_free};
 
-use definition::{Answer, Endpoint, EndpointState, Outcome, Slot, SlotState, Table};
-
-const FREE: Slot = Slot {
-    state: SlotState::Free,
-    base: 0,
-    entry: 0,
-};
-
-const DISABLED: Endpoint = Endpoint {
-    state: EndpointState::Disabled,
-    cycle: false,
-    pointer: 0,
-};
-
-fn plain(code: u64) -> Answer
-    ensures { result ≡ answer code }
-{
-    Answer {
-        code,
-        slot: 0,
-        launched: 0,
-        terminated: 0,
-        port: 0,
-        stored: 0,
-        submit: 0,
-        cancel: 0,
-    }
-}
+use definition::{Answer, Endpoint, Outcome, Refusal, Slot, SlotState, Table};
 
 // A table with no slot, for a memory of this length.
 fn fresh(length: u64) -> Table
@@ -45,8 +17,8 @@ fn fresh(length: u64) -> Table
         limit: 0,
         length,
         dcbaap: 0,
-        slots: [FREE; 16],
-        endpoints: [DISABLED; 496],
+        slots: [Slot::FREE; 16],
+        endpoints: [Endpoint::DISABLED; 496],
     }
 }
 
@@ -57,13 +29,10 @@ pub fn make_table(length: u64) -> Outcome
     if length <= 1073741824 {
         return Outcome {
             table: fresh(length),
-            answer: plain(0),
+            answer: scan::answer(0),
         };
     }
-    Outcome {
-        table: fresh(0),
-        answer: plain(197),
-    }
+    scan::refuse(fresh(0), Refusal::TooLarge)
 }
 
 // The slot limit, 0 to 16. Slots above a lowered limit stay.
@@ -72,13 +41,11 @@ pub fn set_limit(t: Table, limit: u64) -> Outcome
     ensures { AnswersAlone (set_limit limit) t result }
 {
     if 16 < limit {
-        return scan::refused(t, 197);
+        return scan::refuse(t, Refusal::TooLarge);
     }
-    let mut u = t;
-    u.limit = limit;
     Outcome {
-        table: u,
-        answer: plain(0),
+        table: Table { limit, ..t },
+        answer: scan::answer(0),
     }
 }
 
@@ -87,30 +54,19 @@ pub fn set_dcbaap(t: Table, dcbaap: u64) -> Outcome
     requires { well_formed t ≡ true }
     ensures { AnswersAlone (set_dcbaap dcbaap) t result }
 {
-    let mut u = t;
-    u.dcbaap = dcbaap;
     Outcome {
-        table: u,
-        answer: plain(0),
+        table: Table { dcbaap, ..t },
+        answer: scan::answer(0),
     }
 }
 
-// The smallest free id from 1 to the limit; 0 where there is none.
-fn first_free(slots: [Slot; 16], limit: u64) -> u64
+// The smallest free id from 1 to the limit. (`1..limit + 1`: of what `find` finds in `1..=limit` std has no lemma.)
+fn first_free(slots: [Slot; 16], limit: u64) -> Option<u64>
     requires { limit ≤ 16 }
-    ensures { (result ≡ first_free slots limit) × (result ≤ 16) }
+    ensures first { result ≡ first_free slots limit }
+    ensures within { IfSome result (λ id. (1 ≤ id) × (id ≤ 16)) }
 {
-    let mut id: u64 = 1;
-    while id <= limit {
-        let j = (id - 1) as usize;
-        let slot = slots[j];
-        let state = slot.state;
-        if scan::is_free(state) {
-            return id;
-        }
-        id += 1;
-    }
-    0
+    (1..limit + 1).find(|id| slots[(*id - 1) as usize].is_free())
 }
 
 // The smallest free id within the limit, Enabled, with its DCBAA entry's address fixed; 9 where there is none.
@@ -118,36 +74,21 @@ pub fn enable_slot(t: Table) -> Outcome
     requires { well_formed t ≡ true }
     ensures { AnswersAlone enable_slot t result }
 {
-    let mut slots = t.slots;
-    let id = first_free(slots, t.limit);
-    if id == 0 {
-        return scan::refused(t, 9);
-    }
+    let Some(id) = first_free(t.slots, t.limit) else {
+        return scan::refuse(t, Refusal::NoFreeSlot);
+    };
     let entry = guest::address::plus(t.dcbaap, 8 * id);
-    let j = (id - 1) as usize;
-    slots[j] = Slot {
+    let mut slots = t.slots;
+    slots[(id - 1) as usize] = Slot {
         state: SlotState::Enabled,
         base: 0,
         entry,
     };
-    let endpoints = t.endpoints;
     Outcome {
-        table: Table {
-            limit: t.limit,
-            length: t.length,
-            dcbaap: t.dcbaap,
-            slots,
-            endpoints,
-        },
+        table: Table { slots, ..t },
         answer: Answer {
-            code: 1,
             slot: id,
-            launched: 0,
-            terminated: 0,
-            port: 0,
-            stored: 0,
-            submit: 0,
-            cancel: 0,
+            ..scan::answer(1)
         },
     }
 }
@@ -158,20 +99,15 @@ pub fn reset_all(t: Table, mem: &mut [u8]) -> Outcome
     ensures { Meets (prog reset_all (length mem.old) t) mem.old result mem.new }
 {
     let freed = walks::free_all(t, mem);
-    let mut u = freed.table;
-    u.limit = 0;
-    u.dcbaap = 0;
     Outcome {
-        table: u,
+        table: Table {
+            limit: 0,
+            dcbaap: 0,
+            ..freed.table
+        },
         answer: Answer {
-            code: 0,
-            slot: 0,
-            launched: 0,
-            terminated: 0,
-            port: 0,
             stored: freed.stored,
-            submit: 0,
-            cancel: 0,
+            ..scan::answer(0)
         },
     }
 }

@@ -3,47 +3,46 @@
 #![tactic(auto)]
 
 use std::io::Write;
+use std::rt::Files;
 use std::{fs, io};
 
-fn session(rt: &HostRuntime, name: &str) -> io::Result<()> {
+// Replayed to the end.
+const WHOLE: [&str; 5] = ["empty", "enable", "limits", "last_byte", "hand"];
+
+// Ended by a bad record.
+const BROKEN: [&str; 7] = [
+    "parts", "short", "one_byte", "kind_0", "kind_19", "byte_4", "byte_31",
+];
+
+// With a field that is due zero.
+const UNUSED: [&str; 6] = [
+    "unused_slot",
+    "unused_endpoint",
+    "unused_flag",
+    "unused_bit",
+    "unused_pointer",
+    "unused_value",
+];
+
+// With a number that is too large.
+const LARGE: [&str; 2] = ["value_256", "store_65536"];
+
+fn session(rt: &(impl Files + Print), name: &str) -> io::Result<()> {
     let mut out = io::writer(rt);
-    out.write_all(name.as_bytes())?;
-    out.write_all(b":\n")?;
-    let mut file = fs::open(rt, name)?;
-    player::replay(&mut file, &mut out)
+    writeln!(out, "{name}:")?;
+    player::replay(&mut fs::open(rt, name)?, &mut out)
 }
 
-fn to_the_end(rt: &HostRuntime) -> io::Result<()> {
-    session(rt, "empty")?;
-    session(rt, "enable")?;
-    session(rt, "limits")?;
-    session(rt, "last_byte")?;
-    session(rt, "hand")
-}
-
-fn ended_by_a_bad_record(rt: &HostRuntime) -> io::Result<()> {
-    session(rt, "parts")?;
-    session(rt, "short")?;
-    session(rt, "one_byte")?;
-    session(rt, "kind_0")?;
-    session(rt, "kind_19")?;
-    session(rt, "byte_4")?;
-    session(rt, "byte_31")
-}
-
-fn with_a_field_that_is_due_zero(rt: &HostRuntime) -> io::Result<()> {
-    session(rt, "unused_slot")?;
-    session(rt, "unused_endpoint")?;
-    session(rt, "unused_flag")?;
-    session(rt, "unused_bit")?;
-    session(rt, "unused_pointer")?;
-    session(rt, "unused_value")
+fn sessions(rt: &(impl Files + Print), names: &[&str]) -> io::Result<()> {
+    for name in names {
+        session(rt, name)?;
+    }
+    Ok(())
 }
 
 fn main(rt: HostRuntime) -> io::Result<()> {
-    to_the_end(&rt)?;
-    ended_by_a_bad_record(&rt)?;
-    with_a_field_that_is_due_zero(&rt)?;
-    session(&rt, "value_256")?;
-    session(&rt, "store_65536")
+    for names in [&WHOLE[..], &BROKEN[..], &UNUSED[..], &LARGE[..]] {
+        sessions(&rt, names)?;
+    }
+    Ok(())
 }

@@ -2,35 +2,28 @@
 -- numbers, the head of a call.
 -- Assumes nothing.
 use mathlib.Core.Path.{◌≡◌, refl, sym, ap, ◌∙◌}
-use mathlib.Core.Bool.{Bool, true, false, not, cond, ◌&&◌, ◌||◌}
+use mathlib.Core.Bool.{Bool, true, false, not, ◌&&◌, ◌||◌}
 use Prim.Native.Nat.{ℕ, ◌+◌, ◌-◌, ◌*◌, ◌≤◌, ◌<◌}
 use native.Mathlib.Nat.{add-zero}
 use native.Mathlib.Omega.{arith}
-use borrow.Author.Tests.{not-true, not-false, leb-true, leb-false, le-leb, lt-leb, eq-eqb, ne_eqb, eqb-true, eqb-false}
+use borrow.Author.Tests.{leb-true, le-leb, lt-leb, eq-eqb, ne_eqb, eqb-true, eqb-false}
 use mir.Val.{bool_byte}
 use lib.Bits.{bit_or, or_add_and, and_le_r}
 use lib.Dec.{leb, eqb}
 use lib.ListN.{get_or}
-use Rattle.guest.specs.Bytes.{inside, count}
+use Rattle.guest.specs.Bytes.{count}
 use Rattle.guest.specs.Prog.{all}
 use Rattle.guest.proofs.LoopLaws.{Testing, testing_begins, testing_goes, testing_ends, testing_fails}
 use Rattle.guest.proofs.ListLaws.{count_none, count_first, and_left, and_right}
-use Rattle.guest.proofs.RunLaws.{is_inside, is_outside}
 use Rattle.definition.proofs.EndedLaws.{used_slot}
-use Rattle.definition.specs.Table.{endpoint_number, disabled, endpoint_of, slot_of, is_zero, endpoint_ok, used_ok, no_endpoint, slot_ok_in, slot_ok, well_formed, lookup}
-use Rattle.scan.specs.Types.{Endpoint, SlotState, Free, Enabled, Default, Addressed, Configured, Slot, Table, Lookup, Used, Nothing}
+use Rattle.definition.specs.Table.{disabled, endpoint_of, slot_of, is_zero, endpoint_ok, used_ok, no_endpoint, slot_ok_in, slot_ok, well_formed, lookup}
+use Rattle.scan.specs.Types.{Endpoint, SlotState, Free, Enabled, Default, Addressed, Configured, Slot, Table, Option, Some, None, OtherMemory, Malformed}
+use Rattle.std.specs.Prelude.{Ok, Err, is_ok}
+use Rattle.scan.specs.declared.Head.{Head}
 use Rattle.scan.specs.Records.{first_of, has_contexts, in_use, own_in, own_ok, clear}
-use Rattle.scan.specs.Heads.{judged, code_for, record_at, nothing_with, head_of, head_for, found_in}
+use Rattle.scan.specs.Heads.{Begun, begun, checked, record_at, head_of, head_for, found_in}
 
 -- ---- one record
-
--- the code's test of a range, which takes no sum that wraps
-pub room : (len a n : ℕ) → n ≤ len → leb a (len - n) ≡ inside len a n
-room len a n h = by (leb a (len - n)) refl
-  where
-    by : (b : Bool) → leb a (len - n) ≡ b → b ≡ inside len a n
-    by true e = let k = leb-true a (len - n) e in sym (is_inside len a n (omega arith))
-    by false e = let k = leb-false a (len - n) e in sym (is_outside len a n (omega arith))
 
 -- numbers joined by `|` are 0 where both are
 or_zero : (a b : ℕ) → eqb (bit_or a b) 0 ≡ (eqb a 0 && eqb b 0)
@@ -54,7 +47,7 @@ not_or : (c d : Bool) → not (c || d) ≡ (not c && not d)
 not_or true d = refl
 not_or false d = refl
 
--- faults joined to those found so far
+-- faults joined
 clear_or : (a : ℕ) (c : Bool) (b x : ℕ) (d : Bool) (y : ℕ) → clear (bit_or a x) (c || d) (bit_or b y) ≡ (clear a c b && clear x d y)
 clear_or a c b x d y =
     rw (or_zero a x, or_zero b y, not_or c d)
@@ -65,11 +58,6 @@ clear_or a c b x d y =
 pub clear_all : (a : ℕ) (c : Bool) (b : ℕ) → eqb (bit_or (bit_or a (bool_byte c)) b) 0 ≡ clear a c b
 clear_all a true b = or_zero (bit_or a 1) b ∙ ap (λ (q : Bool). q && eqb b 0) (or_zero a 1)
 clear_all a false b = or_zero (bit_or a 0) b ∙ ap (λ (q : Bool). q && eqb b 0) (or_zero a 0)
-
--- a record's state as a number, its cycle and its pointer
-pub clear_record : (e : Endpoint) {n : ℕ} → n ≡ endpoint_number e.state → clear n e.cycle e.pointer ≡ is_zero e
-unfolding is_zero
-clear_record e p = rw p
 
 -- ---- a loop of tests
 
@@ -121,16 +109,16 @@ slot_in_lem Configured s t id = refl
 -- own is what `slot_ok` gives
 module _ (t : Table) (id : ℕ) {own : Bool} (e : own ≡ own_ok (slot_of t id) (first_of t id) t.length) where
   -- the slot's own part fails
-  pub slot_bad : not own ≡ true → slot_ok t id ≡ false
+  pub slot_bad : own ≡ false → slot_ok t id ≡ false
   unfolding own_ok slot_ok
-  slot_bad h = sym (slot_in_lem (slot_of t id).state (slot_of t id) t id) ∙ rw (first_is t id, sym e ∙ not-true own h)
+  slot_bad h = sym (slot_in_lem (slot_of t id).state (slot_of t id) t id) ∙ rw (first_is t id, sym e ∙ h)
 
   -- it passes: the faults gathered from the records decide
-  pub slot_is : not own ≡ false → {contexts : Bool} {i : ℕ} (a : ℕ) (c : Bool) (b : ℕ) → contexts ≡ has_contexts (slot_of t id).state
-      → Scan (test_of contexts t.length (slot_of t id).base t id) 32 i (clear a c b) → 32 ≤ i → slot_ok t id ≡ clear a c b
+  pub slot_is : own ≡ true → {contexts good : Bool} {i : ℕ} → contexts ≡ has_contexts (slot_of t id).state
+      → Scan (test_of contexts t.length (slot_of t id).base t id) 32 i good → 32 ≤ i → slot_ok t id ≡ good
   unfolding own_ok slot_ok
-  slot_is h a c b u s l =
-      sym (slot_in_lem (slot_of t id).state (slot_of t id) t id) ∙ rw (first_is t id, sym e ∙ not-false own h) (sym (scan_ends _ s l ∙ rw u))
+  slot_is h u s l =
+      sym (slot_in_lem (slot_of t id).state (slot_of t id) t id) ∙ rw (first_is t id, sym e ∙ h) (sym (scan_ends _ s l ∙ rw u))
 
 -- ---- the table
 
@@ -154,31 +142,31 @@ pub found_is : (t : Table) (id : ℕ) → found_in t.slots id ≡ lookup t id
 unfolding found_in lookup slot_of
 found_is t id = refl
 
-used_is : (t : Table) (id : ℕ) {l : Lookup} {s : Slot} → l ≡ found_in t.slots id → l ≡ Used s → lookup t id ≡ Used s
+used_is : (t : Table) (id : ℕ) {l : Option Slot} {s : Slot} → l ≡ found_in t.slots id → l ≡ Some s → lookup t id ≡ Some s
 used_is t id e u = sym (found_is t id) ∙ sym e ∙ u
 
 module _ (t : Table) (len id i : ℕ) where
   -- 198
-  pub head_malformed : false ≡ well_formed t → nothing_with 198 ≡ head_for t len id i
-  unfolding head_for code_for
+  pub head_malformed : false ≡ well_formed t → Err Malformed ≡ head_for t len id i
+  unfolding head_for
   head_malformed e = rw (← e)
 
   -- 194
-  pub head_other : true ≡ well_formed t → (t.length ≡ len → ⊥) → nothing_with 194 ≡ head_for t len id i
-  unfolding head_for code_for
+  pub head_other : true ≡ well_formed t → (t.length ≡ len → ⊥) → Err OtherMemory ≡ head_for t len id i
+  unfolding head_for
   head_other e n = rw (← e, ne_eqb _ _ n)
 
-  -- code 0, and what the look found
-  head_of_lem : true ≡ well_formed t → t.length ≡ len → (l : Lookup) → l ≡ lookup t id → head_of t id i l ≡ head_for t len id i
-  unfolding head_for code_for
+  -- what the look found
+  head_of_lem : true ≡ well_formed t → t.length ≡ len → (l : Option Slot) → l ≡ lookup t id → Ok (head_of t id i l) ≡ head_for t len id i
+  unfolding head_for
   head_of_lem e z l f = rw (← e, eq-eqb _ _ z, f)
 
-  pub head_absent : true ≡ well_formed t → t.length ≡ len → Nothing ≡ lookup t id → nothing_with 0 ≡ head_for t len id i
-  head_absent e z f = head_of_lem e z Nothing f
+  pub head_absent : true ≡ well_formed t → t.length ≡ len → None ≡ lookup t id → Ok (record { found = None; endpoint = disabled }) ≡ head_for t len id i
+  head_absent e z f = head_of_lem e z None f
 
-  head_used : true ≡ well_formed t → t.length ≡ len → {s : Slot} → lookup t id ≡ Used s → {e : Endpoint} → record_at t id i ≡ e
-      → record { code = 0; found = Used s; endpoint = e } ≡ head_for t len id i
-  head_used e z {s} f r = ap (λ (x : Endpoint). record { code = 0; found = Used s; endpoint = x }) (sym r) ∙ head_of_lem e z (Used s) (sym f)
+  head_used : true ≡ well_formed t → t.length ≡ len → {s : Slot} → lookup t id ≡ Some s → {e : Endpoint} → record_at t id i ≡ e
+      → Ok (record { found = Some s; endpoint = e }) ≡ head_for t len id i
+  head_used e z {s} f r = ap (λ (x : Endpoint). Ok (record { found = Some s; endpoint = x })) (sym r) ∙ head_of_lem e z (Some s) (sym f)
 
 -- the record of an endpoint
 pub record_is : (t : Table) (id i : ℕ) → (leb 1 i && leb i 31) ≡ true → record_at t id i ≡ endpoint_of t id i
@@ -186,44 +174,44 @@ unfolding record_at
 record_is t id i e = rw e
 
 -- .. where the look gave l, and found a slot; inside is what `in_range` gives
-module _ (t : Table) (len id i : ℕ) (f : true ≡ well_formed t) (z : t.length ≡ len) {l : Lookup} {s : Slot} (e : l ≡ found_in t.slots id) (u : l ≡ Used s)
+module _ (t : Table) (len id i : ℕ) (f : true ≡ well_formed t) (z : t.length ≡ len) {l : Option Slot} {s : Slot} (e : l ≡ found_in t.slots id) (u : l ≡ Some s)
     {inside : Bool} (r : inside ≡ (leb 1 i && leb i 31)) where
-  pub head_outside : not inside ≡ true → record { code = 0; found = Used s; endpoint = disabled } ≡ head_for t len id i
+  pub head_outside : inside ≡ false → Ok (record { found = Some s; endpoint = disabled }) ≡ head_for t len id i
   unfolding record_at
-  head_outside h = head_used t len id i f z (used_is t id e u) (rw (sym r ∙ not-true inside h))
+  head_outside h = head_used t len id i f z (used_is t id e u) (rw (sym r ∙ h))
 
-  pub head_inside : not inside ≡ false → record { code = 0; found = Used s; endpoint = endpoint_of t id i } ≡ head_for t len id i
-  head_inside h = head_used t len id i f z (used_is t id e u) (record_is t id i (sym r ∙ not-false inside h))
+  pub head_inside : inside ≡ true → Ok (record { found = Some s; endpoint = endpoint_of t id i }) ≡ head_for t len id i
+  head_inside h = head_used t len id i f z (used_is t id e u) (record_is t id i (sym r ∙ h))
 
 -- where its record stands
-pub bounds : (t : Table) (id i : ℕ) {l : Lookup} {s : Slot} → l ≡ found_in t.slots id → l ≡ Used s → {inside : Bool} → inside ≡ (leb 1 i && leb i 31) → not inside ≡ false
+pub bounds : (t : Table) (id i : ℕ) {l : Option Slot} {s : Slot} → l ≡ found_in t.slots id → l ≡ Some s → {inside : Bool} → inside ≡ (leb 1 i && leb i 31) → inside ≡ true
     → (1 ≤ id) × (id ≤ 16) × (1 ≤ i) × (i ≤ 31)
 bounds t id i {s = s} e u {inside} r h =
     let q = (used_slot t id s (used_is t id e u)).1 in
-    let n = sym r ∙ not-false inside h in
+    let n = sym r ∙ h in
     (q.0, q.1, leb-true 1 i (and_left (leb 1 i) _ n), leb-true i 31 (and_right (leb 1 i) _ n))
 
--- what the code tells of the table
-pub code_formed : (t : Table) (len : ℕ) {code : ℕ} → code ≡ code_for t len → not (eqb code 198) ≡ well_formed t
-unfolding code_for
-code_formed t len e = rw e (by (well_formed t) (eqb t.length len))
-  where
-    by : (b d : Bool) → not (eqb (judged b d) 198) ≡ b
-    by true true = refl
-    by true false = refl
-    by false d = refl
+-- ---- a call for no slot
 
-pub head_code : (t : Table) (len id i : ℕ) → (head_for t len id i).code ≡ code_for t len
+-- a head without what was found
+abbrev pub bare : Begun Head → Begun (Unit {0})
+bare (Ok h) = Ok tt
+bare (Err e) = Err e
+
+pub head_checked : (t : Table) (len id i : ℕ) → bare (head_for t len id i) ≡ checked t len
+unfolding head_for checked
+head_checked t len id i = by (well_formed t) (eqb t.length len) (head_of t id i (lookup t id))
+  where
+    by : (b d : Bool) (h : Head) → bare (begun b d h) ≡ begun b d tt
+    by true true h = refl
+    by true false h = refl
+    by false d h = refl
+
+-- with its own length it is refused where it is malformed alone
+pub head_formed : (t : Table) (id i : ℕ) → is_ok (head_for t t.length id i) ≡ well_formed t
 unfolding head_for
-head_code t len id i = by (code_for t len) (lookup t id)
+head_formed t id i = rw (eq-eqb t.length t.length refl) (by (well_formed t))
   where
-    found : (l : Lookup) → (head_of t id i l).code ≡ 0
-    found Nothing = refl
-    found (Used s) = refl
-
-    by : (c : ℕ) (l : Lookup) → (cond (eqb c 0) (head_of t id i l) (nothing_with c)).code ≡ c
-    by c l = on (eqb c 0) refl
-      where
-        on : (q : Bool) → eqb c 0 ≡ q → (cond q (head_of t id i l) (nothing_with c)).code ≡ c
-        on true e = found l ∙ sym (eqb-true c 0 e)
-        on false e = refl
+    by : (b : Bool) → is_ok (begun b true (head_of t id i (lookup t id))) ≡ b
+    by true = refl
+    by false = refl

@@ -1,195 +1,177 @@
 // How a call begins: whether its table is well formed, whether the lent memory is the table's, and which slot it is for.
-// Each function that takes the table indexes it itself, and hands on only single records and numbers.
+// Each function that takes the table indexes it itself, and hands on single records, numbers and, to `find`, the sixteen slots.
 #![tactic(auto)]
 
 mod records;
 
-ghost use Rattle.std.specs.Prelude.{◌≡◌, ◌&&◌, leb, eqb};
+ghost use Rattle.std.specs.Prelude.{◌≡◌, ◌&&◌, leb};
 ghost use Rattle.definition.specs.Table as tables;
-ghost use Rattle.scan.specs.Heads.{code_for, head_for, found_in, nothing_with, refusal};
+ghost use Rattle.definition.specs.Commands as commands;
+ghost use Rattle.definition.specs.Refusals.{code_of};
+ghost use Rattle.scan.specs.Heads as heads;
 
-use definition::{Answer, Endpoint, EndpointState, Lookup, Outcome, Slot, SlotState, Table};
+use definition::{Answer, Endpoint, Outcome, Refusal, Slot, Table};
+use records::Faults;
 
-// How a call begins: a refusal's code; or code 0, what the look for its slot found, and the record of its endpoint.
+// How a call begins that is not refused: what the look for its slot found, and the record of its endpoint. Two fields, no plainer as one nested Option: of
+// a slot that is found and has no endpoint i the record is a disabled endpoint's, so that each field means something without the other.
 #[derive(Clone, Copy)]
 pub struct Head {
-    pub code: u64,
-    pub found: Lookup,
+    pub found: Option<Slot>,
     pub endpoint: Endpoint,
 }
 
-const DISABLED: Endpoint = Endpoint {
-    state: EndpointState::Disabled,
-    cycle: false,
-    pointer: 0,
-};
-
-// A code, and nothing found.
-fn nothing(code: u64) -> Head
-    ensures { result ≡ nothing_with code }
-{
-    Head {
-        code,
-        found: Lookup::Nothing,
-        endpoint: DISABLED,
-    }
-}
-
-// A slot in this state is free.
-pub fn is_free(state: SlotState) -> bool
-    ensures { result ≡ eqb (tables.slot_number state) 0 }
-{
-    records::slot_number(state) == 0
-}
-
 // The slot with this id, if it is in use.
-fn find(slots: [Slot; 16], id: u64) -> Lookup
-    ensures { result ≡ found_in slots id }
+fn find(slots: [Slot; 16], id: u64) -> Option<Slot>
+    ensures { result ≡ heads.found_in slots id }
 {
-    if id == 0 {
-        return Lookup::Nothing;
+    if id == 0 || 16 < id {
+        return None;
     }
-    if 16 < id {
-        return Lookup::Nothing;
+    // No method of `Table`, here and in `opens`: by value it would copy 8,344 bytes (docs/PERFORMANCE.md), by reference each caller's proof would open it.
+    let slot = slots[(id - 1) as usize];
+    if slot.is_free() {
+        return None;
     }
-    let j = (id - 1) as usize;
-    let slot = slots[j];
-    let state = slot.state;
-    if is_free(state) {
-        return Lookup::Nothing;
-    }
-    Lookup::Used(slot)
+    Some(slot)
 }
 
 // The slot with this id; nothing where the id is 0, above 16, or free.
-pub fn lookup(t: Table, id: u64) -> Lookup
+pub fn lookup(t: Table, id: u64) -> Option<Slot>
     ensures { result ≡ tables.lookup t id }
 {
-    let slots = t.slots;
-    find(slots, id)
+    find(t.slots, id)
 }
 
 // An endpoint has this number.
 fn in_range(i: u64) -> bool
     ensures { result ≡ (leb 1 i && leb i 31) }
 {
-    if i == 0 {
-        return false;
-    }
-    i <= 31
+    1 <= i && i <= 31
 }
 
 // How a call begins that lends `len` bytes, for the slot with this id and, in some calls, its endpoint i: the record is a disabled endpoint's where i is 0 or
-// above 31. This is the one function that goes over the whole table. What is wrong with a slot's records is gathered, and tested once for the slot.
-pub fn opens(t: Table, len: u64, id: u64, i: u64) -> Head
-    ensures { result ≡ head_for t len id i }
+// above 31. This is the one function that goes over the whole table. What is wrong with a slot's records is gathered, and tested once for the slot: in two
+// loops, each with a test of its own, since the compiler then makes two loads a record for a slot that has no contexts, where it made three.
+pub fn opens(t: Table, len: u64, id: u64, i: u64) -> Result<Head, Refusal>
+    ensures { result ≡ heads.head_for t len id i }
 {
-    let length = t.length;
     if 16 < t.limit {
-        return nothing(198);
+        return Err(Refusal::Malformed);
     }
-    if 1073741824 < length {
-        return nothing(198);
+    if 1073741824 < t.length {
+        return Err(Refusal::Malformed);
     }
-    let mut s: u64 = 1;
-    while s < 17 {
-        let j = (s - 1) as usize;
-        let slot = t.slots[j];
-        let at = ((s - 1) * 31) as usize;
-        let first = t.endpoints[at];
-        if !records::slot_ok(slot, first, length) {
-            return nothing(198);
+    for s in 1..17 {
+        let slot = t.slots[s - 1];
+        if !records::slot_ok(slot, t.endpoints[(s - 1) * 31], t.length) {
+            return Err(Refusal::Malformed);
         }
-        let state = slot.state;
-        let base = slot.base;
+        // Three locals, made one value of `Faults` for the test: gathered in one, state and cycle are loaded apart, and the scan takes half as long again.
         let mut flags: u8 = 0;
-        let mut cycles = false;
-        let mut pointers: u64 = 0;
-        let mut n: u64 = 1;
-        if !records::has_contexts(state) {
-            while n < 32 {
-                let k = ((s - 1) * 31 + (n - 1)) as usize;
-                let e = t.endpoints[k];
-                let wrong = records::nonzero(e);
-                flags = flags | wrong.flags;
-                cycles = cycles | wrong.cycle;
-                pointers = pointers | wrong.pointer;
-                n += 1;
+        let mut cycle = false;
+        let mut pointer: u64 = 0;
+        if !records::has_contexts(slot.state) {
+            for n in 1..32 {
+                let wrong = records::nonzero(t.endpoints[(s - 1) * 31 + (n - 1)]);
+                flags |= wrong.flags;
+                cycle |= wrong.cycle;
+                pointer |= wrong.pointer;
             }
-            if records::faulty(flags, cycles, pointers) {
-                return nothing(198);
+            let gathered = Faults {
+                flags,
+                cycle,
+                pointer,
+            };
+            if gathered.any() {
+                return Err(Refusal::Malformed);
             }
-            s += 1;
             continue;
         }
-        while n < 32 {
-            let k = ((s - 1) * 31 + (n - 1)) as usize;
-            let e = t.endpoints[k];
-            let wrong = records::faults_of(length, base, n, e);
-            flags = flags | wrong.flags;
-            cycles = cycles | wrong.cycle;
-            pointers = pointers | wrong.pointer;
-            n += 1;
+        // n is cast: it is an index, and u64 has no From of a usize.
+        for n in 1..32 {
+            let e = t.endpoints[(s - 1) * 31 + (n - 1)];
+            let wrong = records::faults_of(t.length, slot.base, n as u64, e);
+            flags |= wrong.flags;
+            cycle |= wrong.cycle;
+            pointer |= wrong.pointer;
         }
-        if records::faulty(flags, cycles, pointers) {
-            return nothing(198);
+        let gathered = Faults {
+            flags,
+            cycle,
+            pointer,
+        };
+        if gathered.any() {
+            return Err(Refusal::Malformed);
         }
-        s += 1;
     }
-    if length != len {
-        return nothing(194);
+    if t.length != len {
+        return Err(Refusal::OtherMemory);
     }
-    let slots = t.slots;
-    let Lookup::Used(slot) = find(slots, id) else {
-        return nothing(0);
+    let Some(slot) = find(t.slots, id) else {
+        return Ok(Head {
+            found: None,
+            endpoint: Endpoint::DISABLED,
+        });
     };
     if !in_range(i) {
-        return Head {
-            code: 0,
-            found: Lookup::Used(slot),
-            endpoint: DISABLED,
-        };
+        return Ok(Head {
+            found: Some(slot),
+            endpoint: Endpoint::DISABLED,
+        });
     }
+    // By hand, as in `find`.
     let k = ((id - 1) * 31 + (i - 1)) as usize;
-    let endpoint = t.endpoints[k];
-    Head {
-        code: 0,
-        found: Lookup::Used(slot),
-        endpoint,
-    }
+    Ok(Head {
+        found: Some(slot),
+        endpoint: t.endpoints[k],
+    })
 }
 
-// The table is well formed.
+// The table is well formed: a call that lends its own length is not refused.
 pub fn well_formed(t: Table) -> bool
     ensures { result ≡ tables.well_formed t }
 {
-    let head = opens(t, 0, 0, 0);
-    head.code != 198
+    opens(t, t.length, 0, 0).is_ok()
 }
 
 // How a call that lends `len` bytes begins, where it is for no slot.
-pub fn checks(t: Table, len: u64) -> u64
-    ensures { result ≡ code_for t len }
+pub fn checks(t: Table, len: u64) -> Result<(), Refusal>
+    ensures { result ≡ heads.checked t len }
 {
-    let head = opens(t, len, 0, 0);
-    head.code
+    opens(t, len, 0, 0)?;
+    Ok(())
 }
 
-// A refusal: the table as it was, and all but the code is 0.
+// An answer that is 0 but for its code.
+pub fn answer(code: u64) -> Answer
+    ensures { result ≡ commands.answer code }
+{
+    Answer {
+        code,
+        slot: 0,
+        launched: 0,
+        terminated: 0,
+        port: 0,
+        stored: 0,
+        submit: 0,
+        cancel: 0,
+    }
+}
+
+// A refusal by its code: the table as it was, and all but the code is 0. (A number, since docs/CLAIMS.md promises it of any.)
 pub fn refused(t: Table, code: u64) -> Outcome
-    ensures { result ≡ refusal t code }
+    ensures { result ≡ heads.refusal t code }
 {
     Outcome {
         table: t,
-        answer: Answer {
-            code,
-            slot: 0,
-            launched: 0,
-            terminated: 0,
-            port: 0,
-            stored: 0,
-            submit: 0,
-            cancel: 0,
-        },
+        answer: answer(code),
     }
+}
+
+// A refusal.
+pub fn refuse(t: Table, refusal: Refusal) -> Outcome
+    ensures { result ≡ heads.refusal t (code_of refusal) }
+{
+    refused(t, refusal.code())
 }

@@ -1,10 +1,10 @@
 // One slot's record or one endpoint's: whether it is in order.
 ghost use Rattle.std.specs.Prelude.{◌≡◌, not, ◌≤◌};
-ghost use Rattle.guest.specs.Bytes as bytes;
-ghost use Rattle.definition.specs.Table.{slot_number, endpoint_number, is_zero, endpoint_ok};
+ghost use Rattle.definition.specs.Table.{is_zero, endpoint_ok};
 ghost use Rattle.scan.specs.Records.{has_contexts, own_ok, in_use, clear};
 
-use definition::{Endpoint, EndpointState, Slot, SlotState};
+use definition::{Endpoint, Slot, SlotState};
+use guest::address::inside;
 
 // What is wrong with an endpoint's record: all are 0 or false where nothing is.
 #[derive(Clone, Copy)]
@@ -14,16 +14,12 @@ pub struct Faults {
     pub pointer: u64,
 }
 
-// The slot state's number: Free is 0.
-pub fn slot_number(state: SlotState) -> u64
-    ensures { result ≡ slot_number state }
-{
-    match state {
-        SlotState::Free => 0,
-        SlotState::Enabled => 1,
-        SlotState::Default => 2,
-        SlotState::Addressed => 3,
-        SlotState::Configured => 4,
+impl Faults {
+    // Something is wrong.
+    pub fn any(self) -> bool
+        ensures { result ≡ not (clear self.flags self.cycle self.pointer) }
+    {
+        u64::from(self.flags) | u64::from(self.cycle) | self.pointer != 0
     }
 }
 
@@ -31,62 +27,26 @@ pub fn slot_number(state: SlotState) -> u64
 pub fn has_contexts(state: SlotState) -> bool
     ensures { result ≡ has_contexts state }
 {
-    1 < slot_number(state)
-}
-
-// The endpoint state's number: Disabled is 0.
-fn endpoint_number(state: EndpointState) -> u8
-    ensures { result ≡ endpoint_number state }
-{
-    match state {
-        EndpointState::Disabled => 0,
-        EndpointState::Waiting => 1,
-        EndpointState::InFlight => 2,
-        EndpointState::Halted => 3,
-        EndpointState::Error => 4,
-        EndpointState::StoppedContinuable => 5,
-        EndpointState::Stopped => 6,
-    }
-}
-
-// The `count` bytes at an address lie wholly in a memory of this length.
-fn inside(length: u64, address: u64, count: u64) -> bool
-    ensures { result ≡ bytes.inside length address count }
-{
-    if count <= length {
-        address <= length - count
-    } else {
-        false
-    }
+    1 < state.number()
 }
 
 // A slot past Enabled has endpoint 1, and the 64 bytes from its base lie in memory.
 fn in_use(slot: Slot, first: Endpoint, length: u64) -> bool
     ensures { result ≡ in_use slot first length }
 {
-    let first_state = first.state;
-    if endpoint_number(first_state) == 0 {
-        return false;
-    }
-    inside(length, slot.base, 64)
+    !first.is_disabled() && inside(length, slot.base, 64)
 }
 
 // The slot's own record is in order, with endpoint 1 beside it.
 pub fn slot_ok(slot: Slot, first: Endpoint, length: u64) -> bool
     ensures { result ≡ own_ok slot first length }
 {
-    let state = slot.state;
-    match state {
-        SlotState::Free => {
-            if slot.base == 0 {
-                return slot.entry == 0;
-            }
-            false
-        }
+    match slot.state {
+        SlotState::Free => slot.base == 0 && slot.entry == 0,
         SlotState::Enabled => slot.base == 0,
-        SlotState::Default => in_use(slot, first, length),
-        SlotState::Addressed => in_use(slot, first, length),
-        SlotState::Configured => in_use(slot, first, length),
+        SlotState::Default | SlotState::Addressed | SlotState::Configured => {
+            in_use(slot, first, length)
+        }
     }
 }
 
@@ -94,9 +54,8 @@ pub fn slot_ok(slot: Slot, first: Endpoint, length: u64) -> bool
 pub fn nonzero(e: Endpoint) -> Faults
     ensures { clear result.flags result.cycle result.pointer ≡ is_zero e }
 {
-    let state = e.state;
     Faults {
-        flags: endpoint_number(state),
+        flags: e.state.number(),
         cycle: e.cycle,
         pointer: e.pointer,
     }
@@ -107,12 +66,10 @@ pub fn faults_of(length: u64, base: u64, i: u64, e: Endpoint) -> Faults
     requires { i ≤ 31 }
     ensures { clear result.flags result.cycle result.pointer ≡ endpoint_ok length base i e }
 {
-    let state = e.state;
-    if endpoint_number(state) == 0 {
+    if e.is_disabled() {
         return nonzero(e);
     }
-    let at = guest::address::plus(base, 32 * i);
-    if inside(length, at, 32) {
+    if inside(length, guest::address::plus(base, 32 * i), 32) {
         return Faults {
             flags: 0,
             cycle: false,
@@ -124,11 +81,4 @@ pub fn faults_of(length: u64, base: u64, i: u64, e: Endpoint) -> Faults
         cycle: false,
         pointer: 0,
     }
-}
-
-// Something is wrong.
-pub fn faulty(flags: u8, cycles: bool, pointers: u64) -> bool
-    ensures { result ≡ not (clear flags cycles pointers) }
-{
-    flags as u64 | cycles as u64 | pointers != 0
 }

@@ -1,201 +1,228 @@
-// The cases, act by act. A script that is over goes on with `Act::End`.
+// The scope document's cases, act by act, with what it expects.
 #![tactic(auto)]
 
-// What a case is made of: guest stores, calls, and looks at what they leave.
+ghost use Rattle.std.specs.Prelude.{◌≡◌, ◌<◌, IfOk, vec_len};
+
+mod act;
+mod says;
+
+pub use act::{Act, Call, Place, Script, Setting};
+use definition::Answer;
+use says::*;
+use std::alloc::{AllocError, Global};
+
+// A case at the end of the memory: its number, the base in slot 1's DCBAA entry, the input context's pointer, and what is expected.
 #[derive(Clone, Copy)]
-pub enum Act {
-    // A guest store at an address: of a byte, and of eight bytes.
-    Byte(usize, u64),
-    Word(usize, u64),
-    // Under a case's number, a call with a slot's id, an input context's pointer or an endpoint, and BSR or DC; and the answer that the document
-    // expects. A call of case 0 leads to others and is not shown.
-    Tried(u64, Call, u64, u64, bool, Says),
-    // Looks of a case, with the number that the document expects: at a byte and at eight of an address, and at pointer and cycle of endpoint 1
-    // of slot 1.
-    See(u64, usize, u64),
-    SeeWord(u64, usize, u64),
-    Place(u64, u64),
-    End,
+struct Edge {
+    case: u64,
+    base: u64,
+    pointer: u64,
+    expected: Answer,
+    ghost within: { pointer < 4096 },
 }
 
-#[derive(Clone, Copy)]
-pub enum Call {
-    Enable,
-    Address,
-    Configure,
-    Stop,
-    ResetAll,
+impl Edge {
+    fn new(case: u64, base: u64, pointer: u64, expected: Answer) -> Self
+        requires { pointer < 4096 }
+    {
+        Edge {
+            case,
+            base,
+            pointer,
+            expected,
+        }
+    }
+
+    fn setting(self) -> Setting {
+        Setting {
+            base: self.base,
+            ..USUAL
+        }
+    }
 }
 
-// An answer's code, slot, launched, terminated and stored. Root port, submit and cancel are 0 in all cases.
-#[derive(Clone, Copy)]
-pub struct Says(pub u64, pub u64, pub u64, pub u64, pub u64);
+// "Memory 4096, limit 4, DCBAAP 256, entry at 264 holding 1024", where nothing else is said.
+const USUAL: Setting = Setting {
+    limit: 4,
+    base: 1024,
+};
 
-// Some have a case's number, the input context's pointer, and the answer that the document expects.
-#[derive(Clone, Copy)]
-pub enum Script {
-    // Enable Slot.
-    Enable(u64, Says),
-    // Slot 1 is enabled, addressed twice and configured, and endpoint 3 is stopped.
-    Life,
-    // Address Device, BSR=0, of slot 1, just enabled.
-    Address(u64, u64, Says),
-    // Configure Endpoint, DC=0, of slot 1, Addressed: endpoint 31 is added.
-    Last(u64, u64, Says),
-    // P = 2^64-4.
-    Wrapping,
-    // The most bytes stored.
-    Most,
-}
+// An input context's pointer: the usual P, and 2^64-4.
+const P: u64 = 2048;
 
-// Flags 2 to 31, and an input context's first 8 bytes: to add them, to drop and add them.
-const EVERY: u64 = 0xffff_fffc;
+const WRAPPING: u64 = 0xffff_ffff_ffff_fffc;
 
+// The first 8 bytes of an input context: flags 2 to 31, to add them, and to drop and add them; flag 31, to add it.
 const ADDS: u64 = 0xffff_fffc_0000_0000;
 
 const DROPS_AND_ADDS: u64 = 0xffff_fffc_ffff_fffc;
 
-// Nothing is expected of a call that is not shown.
-const UNSEEN: Says = Says(0, 0, 0, 0, 0);
+const ADDS_31: u64 = 0x8000_0000_0000_0000;
 
-const WRAPPING: u64 = 0xffff_ffff_ffff_fffc;
+// An endpoint's byte 4 for type 7.
+const TYPE_7: u8 = 56;
 
-// ---- the life of slot 1
+// ---- calls
 
-fn addressed(i: usize) -> Act {
-    match i {
-        0 => Act::Tried(0, Call::Enable, 1, 0, false, UNSEEN),
-        1 => Act::Tried(3, Call::Address, 1, 2048, true, Says(1, 0, 2, 0, 66)),
-        2 => Act::See(3, 1039, 8),
-        3 => Act::See(3, 1056, 1),
-        4 => Act::Place(3, 3073),
-        5 => Act::Tried(4, Call::Address, 1, 2048, true, Says(19, 0, 0, 0, 0)),
-        6 => Act::Byte(2116, 0),
-        7 => Act::Tried(5, Call::Address, 1, 2048, true, Says(17, 0, 0, 0, 0)),
-        8 => Act::Byte(2116, 32),
-        9 => Act::Tried(6, Call::Address, 1, 2048, false, Says(1, 0, 2, 2, 67)),
-        10 => Act::See(6, 1039, 16),
-        _ => configured(i),
+fn address(id: u64, pointer: u64, bsr: bool) -> Call {
+    Call::AddressDevice { id, pointer, bsr }
+}
+
+fn configure(id: u64, pointer: u64) -> Call {
+    Call::ConfigureEndpoint {
+        id,
+        pointer,
+        dc: false,
     }
 }
 
+const STOP: Call = Call::StopEndpoint { id: 1, endpoint: 3 };
+
+// ---- scripts
+
+fn script(alloc: Global, setting: Setting, acts: &[Act]) -> Result<Script, AllocError> {
+    Ok(Script {
+        setting,
+        acts: acts.to_vec(alloc)?,
+    })
+}
+
+fn enable(alloc: Global, limit: u64, case: u64, expected: Answer) -> Result<Script, AllocError> {
+    let acts = [Act::Try(case, Call::EnableSlot, expected)];
+    script(alloc, Setting { limit, ..USUAL }, &acts)
+}
+
+// Slot 1 is enabled and addressed twice; then it is configured, and endpoint 3 is stopped.
 // The bytes 2176 to 2207 are 0 but for the type, and the launch stores 1 over the first copy.
-fn configured(i: usize) -> Act {
-    match i {
-        11 => Act::Byte(2052, 8),
-        12 => Act::Byte(2180, 56),
-        13 => Act::Tried(7, Call::Configure, 1, 2048, false, Says(1, 0, 8, 0, 34)),
-        14 => Act::SeeWord(7, 1120, 0x38_0000_0001),
-        15 => Act::SeeWord(7, 1128, 0),
-        16 => Act::SeeWord(7, 1136, 0),
-        17 => Act::SeeWord(7, 1144, 0),
-        18 => Act::See(7, 1039, 24),
-        19 => Act::Tried(8, Call::Stop, 1, 3, false, Says(1, 0, 0, 0, 9)),
-        20 => Act::Tried(8, Call::Stop, 1, 3, false, Says(19, 0, 0, 0, 0)),
-        _ => Act::End,
-    }
+fn life(alloc: Global) -> Result<Script, AllocError> {
+    let acts = [
+        Act::Call(Call::EnableSlot),
+        Act::Try(3, address(1, P, true), ADDRESSED),
+        Act::See(3, Place::Byte(1039), 8),
+        Act::See(3, Place::Byte(1056), 1),
+        Act::See(3, Place::Pointer, 3072),
+        Act::See(3, Place::Cycle, 1),
+        Act::Try(4, address(1, P, true), WRONG_STATE),
+        Act::Byte(2116, 0),
+        Act::Try(5, address(1, P, true), WRONG_TYPE),
+        Act::Byte(2116, 32),
+        Act::Try(6, address(1, P, false), ADDRESSED_AGAIN),
+        Act::See(6, Place::Byte(1039), 16),
+        Act::Byte(2052, 8),
+        Act::Byte(2180, TYPE_7),
+        Act::Try(7, configure(1, P), ADDED_3),
+        Act::See(7, Place::Word(1120), 0x38_0000_0001),
+        Act::See(7, Place::Word(1128), 0),
+        Act::See(7, Place::Word(1136), 0),
+        Act::See(7, Place::Word(1144), 0),
+        Act::See(7, Place::Byte(1039), 24),
+        Act::Try(8, STOP, STOPPED),
+        Act::Try(8, STOP, WRONG_STATE),
+    ];
+    script(alloc, USUAL, &acts)
 }
 
-// ---- contexts at the edges
-
-fn enable(case: u64, expected: Says, i: usize) -> Act {
-    match i {
-        0 => Act::Tried(case, Call::Enable, 1, 0, false, expected),
-        _ => Act::End,
-    }
+// Address Device, BSR=0, of slot 1, just enabled.
+fn addressed(alloc: Global, edge: Edge) -> Result<Script, AllocError> {
+    let acts = [
+        Act::Call(Call::EnableSlot),
+        Act::Try(edge.case, address(1, edge.pointer, false), edge.expected),
+    ];
+    script(alloc, edge.setting(), &acts)
 }
 
-fn address(case: u64, pointer: u64, expected: Says, i: usize) -> Act {
-    match i {
-        0 => Act::Tried(0, Call::Enable, 1, 0, false, UNSEEN),
-        1 => Act::Tried(case, Call::Address, 1, pointer, false, expected),
-        _ => Act::End,
-    }
-}
-
+// Configure Endpoint, DC=0, of slot 1, Addressed: endpoint 31 is added.
 // "flags D=0, A=2^31 at P, and 56 at P+1028, stored by the guest just before the call"
-fn last(case: u64, pointer: u64, expected: Says, i: usize) -> Act {
-    let at = pointer as usize;
-    match i {
-        0 => Act::Tried(0, Call::Enable, 1, 0, false, UNSEEN),
-        1 => Act::Tried(0, Call::Address, 1, 2048, false, UNSEEN),
-        2 => Act::Word(at, 0x8000_0000_0000_0000),
-        3 => Act::Byte(std::num::wrapping_add_usize(at, 1028), 56),
-        4 => Act::Tried(case, Call::Configure, 1, pointer, false, expected),
-        _ => Act::End,
-    }
+fn added(alloc: Global, edge: Edge) -> Result<Script, AllocError> {
+    let at = edge.pointer as usize;
+    let acts = [
+        Act::Call(Call::EnableSlot),
+        Act::Call(address(1, P, false)),
+        Act::Word(at, ADDS_31),
+        Act::Byte(at + 1028, TYPE_7),
+        Act::Try(edge.case, configure(1, edge.pointer), edge.expected),
+    ];
+    script(alloc, edge.setting(), &acts)
 }
 
-fn wrapping(i: usize) -> Act {
-    match i {
-        0 => Act::Tried(0, Call::Enable, 1, 0, false, UNSEEN),
-        1 => Act::Tried(13, Call::Address, 1, WRAPPING, false, Says(1, 0, 2, 0, 66)),
-        2 => Act::Tried(
-            13,
-            Call::Configure,
-            1,
-            WRAPPING,
-            false,
-            Says(193, 0, 0, 0, 0),
-        ),
-        _ => Act::End,
-    }
+fn wrapping(alloc: Global) -> Result<Script, AllocError> {
+    let acts = [
+        Act::Call(Call::EnableSlot),
+        Act::Try(13, address(1, WRAPPING, false), ADDRESSED),
+        Act::Try(13, configure(1, WRAPPING), OUTSIDE),
+    ];
+    script(alloc, USUAL, &acts)
 }
 
 // ---- the most bytes stored
 
-// Slots 1 to 16 with all 31 endpoints: their DCBAA entries hold the same base, and so contexts are shared.
-fn full(id: usize, part: usize) -> Act {
-    if 16 < id {
-        return Act::End;
-    }
-    match part {
-        0 => Act::Word(256 + 8 * id, 1024),
-        1 => Act::Tried(0, Call::Enable, id as u64, 0, false, UNSEEN),
-        2 => Act::Tried(0, Call::Address, id as u64, 2048, false, UNSEEN),
-        _ => Act::Tried(0, Call::Configure, id as u64, 2048, false, UNSEEN),
-    }
+// A slot with all 31 endpoints. The DCBAA entries of all hold the same base, and so contexts are shared.
+fn full(id: u64) -> [Act; 4]
+    requires { id < 17 }
+{
+    [
+        Act::Word(256 + 8 * id as usize, USUAL.base),
+        Act::Call(Call::EnableSlot),
+        Act::Call(address(id, P, false)),
+        Act::Call(configure(id, P)),
+    ]
 }
 
-// Then slot 1 drops and adds 30 endpoints, and all slots are reset.
-fn reset(i: usize) -> Act {
-    match i {
-        95 => Act::Word(2048, DROPS_AND_ADDS),
-        96 => Act::Tried(
-            14,
-            Call::Configure,
-            1,
-            2048,
-            false,
-            Says(1, 0, EVERY, EVERY, 1021),
-        ),
-        97 => Act::Tried(15, Call::ResetAll, 1, 0, false, Says(0, 0, 0, 0, 496)),
-        98 => Act::Tried(16, Call::Enable, 1, 0, false, Says(9, 0, 0, 0, 0)),
-        _ => Act::End,
+// The input context adds endpoints 2 to 31, all of type 7, and slots 1 to 16 take it. Then slot 1 drops and adds them, and all slots are reset.
+fn most_acts(alloc: Global) -> Result<Vec<Act>, AllocError>
+    ensures { IfOk result (λ acts. vec_len acts ≡ 99) }
+{
+    let mut acts = vec![in alloc; Act::Word(2048, ADDS)]?;
+    for endpoint in 2..32 {
+        acts.push(Act::Byte(2084 + 32 * endpoint, TYPE_7))?;
     }
+    for id in 1..17 {
+        acts.extend_from_slice(&full(id))?;
+    }
+    acts.extend_from_slice(&[
+        Act::Word(2048, DROPS_AND_ADDS),
+        Act::Try(14, configure(1, P), REPLACED),
+        Act::Try(15, Call::ResetAll, ALL_RESET),
+        Act::Try(16, Call::EnableSlot, NO_SLOTS),
+    ])?;
+    Ok(acts)
 }
 
-// First the input context: endpoints 2 to 31 are to be added, all of type 7.
-fn most(i: usize) -> Act {
-    if i < 1 {
-        return Act::Word(2048, ADDS);
-    }
-    if i < 31 {
-        return Act::Byte(2116 + 32 * i, 56);
-    }
-    if i < 95 {
-        return full(1 + (i - 31) / 4, (i - 31) % 4);
-    }
-    reset(i)
+fn most(alloc: Global) -> Result<Script, AllocError> {
+    Ok(Script {
+        setting: Setting { limit: 16, ..USUAL },
+        acts: most_acts(alloc)?,
+    })
 }
 
-pub fn step(s: Script, i: usize) -> Act {
-    match s {
-        Script::Enable(case, expected) => enable(case, expected, i),
-        Script::Life => addressed(i),
-        Script::Address(case, pointer, expected) => address(case, pointer, expected, i),
-        Script::Last(case, pointer, expected) => last(case, pointer, expected, i),
-        Script::Wrapping => wrapping(i),
-        Script::Most => most(i),
+// ---- all
+
+// All scripts, in the order of their cases.
+pub fn all(alloc: Global) -> Result<Vec<Script>, AllocError>
+    ensures { IfOk result (λ scripts. vec_len scripts ≡ 13) }
+{
+    let mut scripts = vec![in alloc;
+        enable(alloc, 4, 1, ENABLED)?,
+        enable(alloc, 0, 2, NO_SLOTS)?,
+        life(alloc)?,
+    ]?;
+    for edge in [
+        Edge::new(9, 4032, P, ADDRESSED),
+        Edge::new(9, 4033, P, OUTSIDE),
+        Edge::new(10, USUAL.base, 4000, ADDRESSED),
+        Edge::new(10, USUAL.base, 4001, OUTSIDE),
+    ] {
+        scripts.push(addressed(alloc, edge)?)?;
     }
+    for edge in [
+        Edge::new(11, 3072, P, ADDED_31),
+        Edge::new(11, 3073, P, OUTSIDE),
+        Edge::new(12, USUAL.base, 3040, ADDED_31),
+        Edge::new(12, USUAL.base, 3041, OUTSIDE),
+    ] {
+        scripts.push(added(alloc, edge)?)?;
+    }
+    scripts.push(wrapping(alloc)?)?;
+    scripts.push(most(alloc)?)?;
+    Ok(scripts)
 }

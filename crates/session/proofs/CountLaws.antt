@@ -5,10 +5,10 @@ use mathlib.Core.Bool.{Bool, true, false, cond}
 use mathlib.Core.List.{List, [], ◌∷◌}
 use Prim.Native.Nat.{ℕ, zero, suc, ◌*◌, ◌≤◌}
 use native.Mathlib.Omega.{arith}
-use native.Mathlib.Decide.{ℕ_discrete}
 use borrow.Author.Tests.{leb-true, eqb-false}
 use lib.Dec.{eqb}
 use lib.ListN.{length, drop, length-append}
+use Rattle.std.specs.Prelude.{Result, Ok, Err}
 use Rattle.guest.specs.Prog.{Mem}
 use Rattle.guest.specs.Trace.{Event, call, store, step, course}
 use Rattle.guest.proofs.SpliceLaws.{splice_length}
@@ -16,11 +16,12 @@ use Rattle.definition.specs.declared.Table.{Table}
 use Rattle.definition.specs.Calls as calls
 use Rattle.scan.specs.Heads.{code_for}
 use Rattle.trace.specs.declared.Entry.{Entry}
-use Rattle.trace.specs.declared.Entry.TheVariants.{Call, Store, Bad}
+use Rattle.trace.specs.declared.Entry.TheVariants.{Call, Store}
+use Rattle.trace.specs.declared.BadRecord.{BadRecord}
 use Rattle.trace.specs.Records.{entry_of}
 use Rattle.session.specs.declared.Ran.{Ran}
-use Rattle.session.specs.Sessions.{records, records_in, entries, events_of, all_numbers, replayed, room_for, refused_with, Runs}
-use Rattle.session.proofs.SizeLaws.{length_map}
+use Rattle.session.specs.Sessions.{records, records_in, entries, events_of, all_numbers, replayed, room_for, refused_with, Plays, Runs}
+use Rattle.std.proofs.lemmas.List.{length-map}
 use Rattle.session.proofs.CourseLaws.{Defined}
 
 records_count : (n : ℕ) (bs : List ℕ) → length (records n bs) ≡ n
@@ -30,14 +31,14 @@ records_count (suc n) bs = ap suc (records_count n (drop 32 bs))
 
 entries_count : (len : ℕ) (bs : List ℕ) → length (entries len bs) ≡ records_in (length bs)
 unfolding entries
-entries_count len bs = length_map (entry_of len) (records (records_in (length bs)) bs) ∙ records_count (records_in (length bs)) bs
+entries_count len bs = length-map (records (records_in (length bs)) bs) (entry_of len) ∙ records_count (records_in (length bs)) bs
 
-events_count : (es : List Entry) → length (events_of es) ≤ length es
+events_count : (es : List (Result Entry BadRecord)) → length (events_of es) ≤ length es
 unfolding events_of
 events_count [] = omega arith
-events_count (Call c ∷ es) = omega (arith, events_count es)
-events_count (Store b ∷ es) = omega (arith, events_count es)
-events_count (Bad ∷ es) = omega (arith, events_count es)
+events_count (Ok (Call c) ∷ es) = omega (arith, events_count es)
+events_count (Ok (Store b) ∷ es) = omega (arith, events_count es)
+events_count (Err e ∷ es) = omega (arith, events_count es)
 
 step_count : (e : Event calls.Call) (t : Table) (m : Mem) → length (step Defined e t m).answers ≤ 1
 unfolding step
@@ -67,14 +68,10 @@ unrefused : (code : ℕ) (b r : Bool) → eqb code 0 ≡ b → ◌≡◌ {A = �
 unrefused code true r q e = room_of r e
 unrefused code false r q e = absurd (eqb-false code 0 q e)
 
-pub answers_fit : {t : Table} {m bs ns : List ℕ} {r : Ran} {m' ns' : List ℕ} → Runs t m bs ns r m' ns' → 8 * r.answered ≤ length ns'
+pub answers_fit : {t : Table} {m bs ns : List ℕ} {r : Ran} {m' ns' : List ℕ} → Runs t m bs ns (Ok r) m' ns' → 8 * r.answered ≤ length ns'
 unfolding refused_with
-answers_fit {t} {m} {bs} {ns} {r} {m'} {ns'} x = by (ℕ_discrete r.code 0)
-  where
-    by : Dec (r.code ≡ 0) → 8 * r.answered ≤ length ns'
-    by (yes z) =
-        let p = x.played z in
-        let k : room_for (length bs) (length ns) ≡ true = unrefused (code_for t (length m)) _ (room_for (length bs) (length ns)) refl (sym x.code ∙ z) in
-        let l : length ns' ≡ length ns = ap (λ (y : Mem). length y) p.numbers ∙ splice_length ns 0 (all_numbers (replayed bs t m).answers) in
-        omega (arith, leb-true (8 * records_in (length bs)) (length ns) k, p.answered, replayed_count bs t m)
-    by (no n) = omega (arith, ap (λ (y : Ran). y.answered) (x.kept n).0)
+answers_fit {t} {m} {bs} {ns} {r} {m'} {ns'} x =
+    let p : Plays t m bs ns r m' ns' = x.played in
+    let k : room_for (length bs) (length ns) ≡ true = unrefused (code_for t (length m)) _ (room_for (length bs) (length ns)) refl (sym x.code) in
+    let l : length ns' ≡ length ns = ap (λ (y : Mem). length y) p.numbers ∙ splice_length ns 0 (all_numbers (replayed bs t m).answers) in
+    omega (arith, leb-true (8 * records_in (length bs)) (length ns) k, p.answered, replayed_count bs t m)

@@ -1,5 +1,4 @@
 pub mod RecordLaws
-pub mod StoreLaws
 pub mod SizeLaws
 pub mod CourseLaws
 pub mod SessionLaws

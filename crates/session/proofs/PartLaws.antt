@@ -8,6 +8,7 @@ use native.Mathlib.Nat.{zero-add, suc-add}
 use native.Mathlib.Omega.{arith}
 use lib.ListN.{length, drop, length-append, length-drop}
 use lib.Seq.{take-append-le, drop-append-le}
+use Rattle.std.specs.Prelude.{Result, Ok, Err}
 use Rattle.guest.specs.Prog.{Mem}
 use Rattle.guest.specs.Trace.{Event, call, store, step, course, left}
 use Rattle.guest.proofs.ReadLaws.{run_length}
@@ -21,7 +22,8 @@ use Rattle.definition.proofs.FormedFacts.{Proper}
 use Rattle.definition.proofs.FormedCalls.{course_proper}
 use Rattle.formed.specs.Promises.{Ready}
 use Rattle.trace.specs.declared.Entry.{Entry}
-use Rattle.trace.specs.declared.Entry.TheVariants.{Call, Store, Bad}
+use Rattle.trace.specs.declared.Entry.TheVariants.{Call, Store}
+use Rattle.trace.specs.declared.BadRecord.{BadRecord}
 use Rattle.trace.specs.Records.{entry_of}
 use Rattle.session.specs.declared.Ran.{Ran}
 use Rattle.session.specs.Sessions.{records, records_in, entries, events_of, any_bad, replayed, Plays}
@@ -50,19 +52,19 @@ entries_append len k xs ys e =
 
 -- ---- what they tell
 
-pub events_append : (es fs : List Entry) → any_bad es ≡ false → events_of (es ++ fs) ≡ events_of es ++ events_of fs
+pub events_append : (es fs : List (Result Entry BadRecord)) → any_bad es ≡ false → events_of (es ++ fs) ≡ events_of es ++ events_of fs
 unfolding events_of any_bad
 events_append [] fs e = refl
-events_append (Call c ∷ es) fs e = rw (events_append es fs e)
-events_append (Store b ∷ es) fs e = rw (events_append es fs e)
-events_append (Bad ∷ es) fs e = let z : ◌≡◌ {A = ℕ} 0 1 = cc in absurd (omega arith)
+events_append (Ok (Call c) ∷ es) fs e = rw (events_append es fs e)
+events_append (Ok (Store b) ∷ es) fs e = rw (events_append es fs e)
+events_append (Err x ∷ es) fs e = let z : ◌≡◌ {A = ℕ} 0 1 = cc in absurd (omega arith)
 
-pub bad_append : (es fs : List Entry) → any_bad es ≡ false → any_bad (es ++ fs) ≡ any_bad fs
+pub bad_append : (es fs : List (Result Entry BadRecord)) → any_bad es ≡ false → any_bad (es ++ fs) ≡ any_bad fs
 unfolding any_bad
 bad_append [] fs e = refl
-bad_append (Call c ∷ es) fs e = bad_append es fs e
-bad_append (Store b ∷ es) fs e = bad_append es fs e
-bad_append (Bad ∷ es) fs e = let z : ◌≡◌ {A = ℕ} 0 1 = cc in absurd (omega arith)
+bad_append (Ok (Call c) ∷ es) fs e = bad_append es fs e
+bad_append (Ok (Store b) ∷ es) fs e = bad_append es fs e
+bad_append (Err x ∷ es) fs e = let z : ◌≡◌ {A = ℕ} 0 1 = cc in absurd (omega arith)
 
 -- ---- what they leave
 
@@ -102,7 +104,7 @@ module _ (k : ℕ) (xs ys : List ℕ) (e : length xs ≡ 32 * k) (t : Table) (m 
   unfolding replayed
   replayed_parts =
       let first = events_of (entries (length m) xs) in
-      ap (λ (es : List Entry). course Defined (events_of es) t m) (entries_append (length m) k xs ys e)
+      ap (λ (es : List (Result Entry BadRecord)). course Defined (events_of es) t m) (entries_append (length m) k xs ys e)
       ∙ ap (λ (es : List (Event calls.Call)). course Defined es t m) (events_append (entries (length m) xs) (entries (length m) ys) good)
       ∙ course_append first (events_of (entries (length m) ys)) t m
       ∙ ap

@@ -1,85 +1,93 @@
 -- How a run begins: 198, then 194, then 200, or it is played.
 -- Assumes nothing.
 use mathlib.Core.Path.{◌≡◌, refl, sym, ap, ◌∙◌}
-use mathlib.Core.Bool.{Bool, true, false, cond}
+use mathlib.Core.Bool.{true, false, cond}
 use mathlib.Core.List.{List}
 use Prim.Native.Nat.{ℕ, ◌*◌, ◌≤◌}
 use native.Mathlib.Omega.{arith}
-use native.Mathlib.Decide.{ℕ_discrete}
-use borrow.Author.Tests.{leb-true, le-leb, eq-eqb, ne_eqb}
+use borrow.Author.Tests.{le-leb, eq-eqb, ne_eqb}
 use lib.Dec.{eqb}
 use lib.ListN.{length}
+use Rattle.std.specs.Prelude.{Result, Ok, Err, IsOkAnd}
 use Rattle.guest.specs.Prog.{Mem}
+use Rattle.definition.specs.declared.Refusal.{Refusal}
 use Rattle.definition.specs.declared.Table.{Table}
-use Rattle.scan.specs.Heads.{code_for}
-use Rattle.scan.proofs.OpeningLaws.{is_lent}
+use Rattle.definition.specs.Refusals.{code_of}
+use Rattle.definition.proofs.RefusalLaws.{code_above, one_code}
+use Rattle.scan.specs.Heads.{Begun, number, checked, code_for}
+use Rattle.scan.proofs.OpeningLaws.{code_checked}
 use Rattle.formed.specs.Promises.{Ready}
 use Rattle.session.specs.declared.Ran.{Ran}
-use Rattle.session.specs.Sessions.{records_in, Plays, room_for, refused_with, refused, Runs}
+use Rattle.session.specs.declared.Refused.{Refused}
+use Rattle.session.specs.declared.Refused.TheVariants.{Call, NoRoom}
+use Rattle.session.specs.Refusals.{number_of}
+use Rattle.session.specs.Sessions.{records_in, Plays, room_for, refused_with, Runs}
 
--- code is what `checks` gives
-module _ (t : Table) (m : Mem) (bs ns : List ℕ) {code : ℕ} (e : code ≡ code_for t (length m)) where
-  pub runs_malformed : (code ≡ 0 → ⊥) → Runs t m bs ns (refused t code) m ns
+module _ (t : Table) (m : Mem) (bs ns : List ℕ) {r : Begun (Unit {0})} (e : r ≡ checked t (length m)) where
+  -- the refusal of a call that lends the memory
+  pub runs_refused : {x : Refusal} → r ≡ Err x → Runs t m bs ns (Err (Call x)) m ns
   unfolding refused_with
-  runs_malformed n =
-      let no : eqb (code_for t (length m)) 0 ≡ false = ne_eqb _ _ (λ z. n (e ∙ z)) in
-      record { code = rw no e; kept = λ k. (refl, refl, refl); played = λ z. absurd (n z) }
+  runs_refused {x} z =
+      let k : code_of x ≡ code_for t (length m) = sym (ap number z) ∙ code_checked t (length m) e in
+      record {
+        code = by (code_for t (length m)) k;
+        kept = (refl, refl);
+        played = tt;
+      }
+    where
+      by : (n : ℕ) → code_of x ≡ n → code_of x ≡ cond (eqb n 0) (cond (room_for (length bs) (length ns)) 0 200) n
+      by n k = let o : eqb n 0 ≡ false = ne_eqb n 0 (λ w. omega (arith, (code_above x).0, k, w)) in k ∙ sym (rw o)
 
-  module _ (z : code ≡ 0) {b : Bool} (r : b ≡ room_for (length bs) (length ns)) where
-    -- what the run's code is then
-    code_is : refused_with t m bs ns ≡ cond b 0 200
+  module _ {x : Unit {0}} (z : r ≡ Ok x) where
+    none : code_for t (length m) ≡ 0
+    none = sym (code_checked t (length m) e) ∙ ap number z
+
+    pub runs_roomless : room_for (length bs) (length ns) ≡ false → Runs t m bs ns (Err NoRoom) m ns
     unfolding refused_with
-    code_is = let yes : eqb (code_for t (length m)) 0 ≡ true = eq-eqb _ _ (sym e ∙ z) in rw yes (ap (λ (x : Bool). cond x 0 200) (sym r))
+    runs_roomless f = record { code = sym (rw (none, f)); kept = (refl, refl); played = tt }
 
-    pub runs_roomless : b ≡ false → Runs t m bs ns (refused t 200) m ns
-    runs_roomless f =
-        record {
-          code = sym (code_is ∙ ap (λ (x : Bool). cond x 0 200) f);
-          kept = λ k. (refl, refl, refl);
-          played = λ k. absurd (omega arith);
-        }
+    pub runs_played : room_for (length bs) (length ns) ≡ true → {y : Ran} {m' ns' : List ℕ} → Plays t m bs ns y m' ns' → Runs t m bs ns (Ok y) m' ns'
+    unfolding refused_with
+    runs_played f p = record { code = sym (rw (none, f)); kept = tt; played = p }
 
-    pub run_ready : Ready t m
-    run_ready = let l = is_lent t (length m) e z in record { formed = l.formed; size = l.size }
+-- the numbers are above 0, and no two are the same
+some_code : (e : Refused) → 0 ≡ number_of e → ⊥
+some_code (Call x) h = omega (arith, (code_above x).0, h)
+some_code NoRoom h = omega (arith, h)
 
-    pub run_room : b ≡ true → 8 * records_in (length bs) ≤ length ns
-    run_room f = leb-true _ _ (sym r ∙ f)
-
-    pub runs_played : b ≡ true → {x : Ran} {m' ns' : List ℕ} → Plays t m bs ns x m' ns' → Runs t m bs ns x m' ns'
-    runs_played f p =
-        record {
-          code = p.code ∙ sym (code_is ∙ ap (λ (x : Bool). cond x 0 200) f);
-          kept = λ n. absurd (n p.code);
-          played = λ k. p;
-        }
+one_number : (e f : Refused) → number_of e ≡ number_of f → e ≡ f
+one_number (Call x) (Call y) h = ap (λ (z : Refusal). Call z) (one_code x y h)
+one_number (Call x) NoRoom h = absurd (omega (arith, (code_above x).1, h))
+one_number NoRoom (Call y) h = absurd (omega (arith, (code_above y).1, h))
+one_number NoRoom NoRoom h = refl
 
 -- a well formed table of the memory's length, and room: nothing is refused
-pub ready_plays : {t : Table} {m bs ns : List ℕ} {r : Ran} {m' ns' : List ℕ} → Ready t m → 8 * records_in (length bs) ≤ length ns → Runs t m bs ns r m' ns'
-    → Plays t m bs ns r m' ns'
-unfolding code_for
-ready_plays {t} {m} {bs} {ns} w h x =
-    let none : 0 ≡ code_for t (length m) = sym (rw (w.formed, eq-eqb t.length (length m) w.size)) in
-    x.played (x.code ∙ code_is t m bs ns none refl (sym (le-leb (8 * records_in (length bs)) (length ns) h)))
+pub ready_plays : {t : Table} {m bs ns : List ℕ} {r : Result Ran Refused} {m' ns' : List ℕ} → Ready t m → 8 * records_in (length bs) ≤ length ns → Runs t m bs ns r m' ns'
+    → IsOkAnd r (λ x. Plays t m bs ns x m' ns')
+unfolding refused_with code_for
+ready_plays {t} {m} {bs} {ns} {r} w h x = by r x
+  where
+    none : refused_with t m bs ns ≡ 0
+    none = rw (w.formed, eq-eqb t.length (length m) w.size, le-leb (8 * records_in (length bs)) (length ns) h)
+
+    by : (r : Result Ran Refused) {m' ns' : List ℕ} → Runs t m bs ns r m' ns' → IsOkAnd r (λ x. Plays t m bs ns x m' ns')
+    by (Ok y) x = x.played
+    by (Err e) x = absurd (some_code e (sym (x.code ∙ none)))
 
 -- ---- the contract leaves one end
 
 one_play : {t : Table} {m bs ns : List ℕ} {r s : Ran} {m₁ ns₁ m₂ ns₂ : List ℕ} → Plays t m bs ns r m₁ ns₁ → Plays t m bs ns s m₂ ns₂ → (r ≡ s) × (m₁ ≡ m₂) × (ns₁ ≡ ns₂)
 one_play {r = r} {s} p q =
     let a : r.table ≡ s.table = p.table ∙ sym q.table in
-    let b : r.code ≡ s.code = p.code ∙ sym q.code in
     let c : r.answered ≡ s.answered = p.answered ∙ sym q.answered in
     let d : r.bad ≡ s.bad = p.bad ∙ sym q.bad in
-    (λ i. record { table = a i; code = b i; answered = c i; bad = d i }, p.memory ∙ sym q.memory, p.numbers ∙ sym q.numbers)
+    (λ i. record { table = a i; answered = c i; bad = d i }, p.memory ∙ sym q.memory, p.numbers ∙ sym q.numbers)
 
-pub one_run : {t : Table} {m bs ns : List ℕ} {r s : Ran} {m₁ ns₁ m₂ ns₂ : List ℕ} → Runs t m bs ns r m₁ ns₁ → Runs t m bs ns s m₂ ns₂ → (r ≡ s) × (m₁ ≡ m₂) × (ns₁ ≡ ns₂)
-one_run {t} {r = r} {s} {m₁} {ns₁} {m₂} {ns₂} p q = by (ℕ_discrete r.code 0)
+pub one_run : {t : Table} {m bs ns : List ℕ} {r s : Result Ran Refused} {m₁ ns₁ m₂ ns₂ : List ℕ} → Runs t m bs ns r m₁ ns₁ → Runs t m bs ns s m₂ ns₂ → (r ≡ s) × (m₁ ≡ m₂) × (ns₁ ≡ ns₂)
+one_run {t} {m} {bs} {ns} {r} {s} {m₁} {ns₁} {m₂} {ns₂} p q = by r s p q
   where
-    same : r.code ≡ s.code
-    same = p.code ∙ sym q.code
-
-    by : Dec (r.code ≡ 0) → (r ≡ s) × (m₁ ≡ m₂) × (ns₁ ≡ ns₂)
-    by (yes z) = one_play (p.played z) (q.played (sym same ∙ z))
-    by (no n) =
-        let a = p.kept n in
-        let b = q.kept (λ z. n (same ∙ z)) in
-        (a.0 ∙ ap (refused t) same ∙ sym b.0, a.1 ∙ sym b.1, a.2 ∙ sym b.2)
+    by : (r s : Result Ran Refused) → Runs t m bs ns r m₁ ns₁ → Runs t m bs ns s m₂ ns₂ → (r ≡ s) × (m₁ ≡ m₂) × (ns₁ ≡ ns₂)
+    by (Ok x) (Ok y) p q = let o = one_play p.played q.played in (ap (λ (x : Ran). Ok x) o.0, o.1, o.2)
+    by (Ok x) (Err f) p q = absurd (some_code f (p.code ∙ sym q.code))
+    by (Err e) (Ok y) p q = absurd (some_code e (q.code ∙ sym p.code))
+    by (Err e) (Err f) p q = (ap (λ (x : Refused). Err x) (one_number e f (p.code ∙ sym q.code)), p.kept.0 ∙ sym q.kept.0, p.kept.1 ∙ sym q.kept.1)

@@ -1,6 +1,6 @@
 -- A recorded session: its records, what they tell up to the first bad one, and what replaying them leaves.
 -- Assumes nothing.
-use Rattle.std.specs.Prelude.{◌≡◌, Bool, true, false, cond, List, [], ◌∷◌, ◌++◌, map, ℕ, zero, suc, ◌+◌, ◌-◌, ◌*◌, ◌/◌, ◌≤◌, ◌<◌, leb, eqb, length, take, drop}
+use Rattle.std.specs.Prelude.{◌≡◌, Bool, true, false, cond, List, [], ◌∷◌, ◌++◌, map, ℕ, zero, suc, ◌+◌, ◌*◌, ◌/◌, leb, eqb, length, take, drop, Result, Ok, Err, IfOk, OnErr}
 use Rattle.guest.specs.Prog.{Mem, splice}
 use Rattle.guest.specs.Trace.{Event, call, store, Course, course, left}
 use Rattle.definition.specs.declared.Table.{Table}
@@ -9,10 +9,13 @@ use Rattle.definition.specs.Calls as calls
 use Rattle.definition.specs.Calls.{prog, counted}
 use Rattle.scan.specs.Heads.{code_for}
 use Rattle.trace.specs.declared.Entry.{Entry}
-use Rattle.trace.specs.declared.Entry.TheVariants.{Call, Store, Bad}
+use Rattle.trace.specs.declared.Entry.TheVariants.{Call, Store}
+use Rattle.trace.specs.declared.BadRecord.{BadRecord}
 use Rattle.trace.specs.Events.{call_of}
 use Rattle.trace.specs.Records.{entry_of}
 use Rattle.session.specs.declared.Ran.{Ran}
+use Rattle.session.specs.declared.Refused.{Refused}
+use Rattle.session.specs.Refusals.{number_of}
 
 -- ---- the records
 
@@ -26,22 +29,22 @@ abbrev pub records_in : ℕ → ℕ
 records_in n = (n + 31) / 32
 
 -- what the records of a trace tell, over a memory of len bytes
-unfoldable pub entries : ℕ → List ℕ → List Entry
+unfoldable pub entries : ℕ → List ℕ → List (Result Entry BadRecord)
 entries len bs = map (entry_of len) (records (records_in (length bs)) bs)
 
 -- the calls and guest stores up to the first bad record
-unfoldable pub events_of : List Entry → List (Event calls.Call)
+unfoldable pub events_of : List (Result Entry BadRecord) → List (Event calls.Call)
 events_of [] = []
-events_of (Call c ∷ es) = call (call_of c) ∷ events_of es
-events_of (Store b ∷ es) = store b.address b.value ∷ events_of es
-events_of (Bad ∷ es) = []
+events_of (Ok (Call c) ∷ es) = call (call_of c) ∷ events_of es
+events_of (Ok (Store b) ∷ es) = store b.address b.value ∷ events_of es
+events_of (Err e ∷ es) = []
 
 -- whether there is a bad one
-unfoldable pub any_bad : List Entry → Bool
+unfoldable pub any_bad : List (Result Entry BadRecord) → Bool
 any_bad [] = false
-any_bad (Call c ∷ es) = any_bad es
-any_bad (Store b ∷ es) = any_bad es
-any_bad (Bad ∷ es) = true
+any_bad (Ok (Call c) ∷ es) = any_bad es
+any_bad (Ok (Store b) ∷ es) = any_bad es
+any_bad (Err e ∷ es) = true
 
 -- ---- the answers
 
@@ -67,7 +70,6 @@ pub record Plays (t : Table) (m : Mem) (bs ns : List ℕ) (r : Ran) (m' : Mem) (
   pub numbers : ns' ≡ splice ns 0 (all_numbers (replayed bs t m).answers)
   pub answered : r.answered ≡ length (replayed bs t m).answers
   pub bad : r.bad ≡ any_bad (entries (length m) bs)
-  pub code : r.code ≡ 0
 
 -- the answers to so many bytes fit into so many numbers, even if each record is a call
 abbrev pub room_for : ℕ → ℕ → Bool
@@ -78,21 +80,13 @@ unfoldable pub refused_with : Table → Mem → List ℕ → List ℕ → ℕ
 refused_with t m bs ns =
     cond (eqb (code_for t (length m)) 0) (cond (room_for (length bs) (length ns)) 0 200) (code_for t (length m))
 
--- nothing was run, and nothing is changed
-abbrev pub refused : Table → ℕ → Ran
-refused t code = record { table = t; code = code; answered = 0; bad = false }
+-- with what a run ends: 0, or why nothing was run
+abbrev pub code_of : Result Ran Refused → ℕ
+code_of (Ok r) = 0
+code_of (Err e) = number_of e
 
--- what a run promises
-pub record Runs (t : Table) (m : Mem) (bs ns : List ℕ) (r : Ran) (m' : Mem) (ns' : List ℕ) : Type 0 where
-  pub code : r.code ≡ refused_with t m bs ns
-  pub kept : (r.code ≡ 0 → ⊥) → (r ≡ refused t r.code) × (m' ≡ m) × (ns' ≡ ns)
-  pub played : r.code ≡ 0 → Plays t m bs ns r m' ns'
-
--- ---- one record
-
--- the record that begins at `at` ends at `end`
-pub record NextIs (bs : List ℕ) (at end : ℕ) : Type 0 where
-  pub low : at < end
-  pub high : end ≤ length bs
-  pub this : take (end - at) (drop at bs) ≡ take 32 (drop at bs)
-  pub rest : drop end bs ≡ drop 32 (drop at bs)
+-- what a run promises: where nothing was run, nothing is changed
+pub record Runs (t : Table) (m : Mem) (bs ns : List ℕ) (r : Result Ran Refused) (m' : Mem) (ns' : List ℕ) : Type 0 where
+  pub code : code_of r ≡ refused_with t m bs ns
+  pub kept : OnErr r ((m' ≡ m) × (ns' ≡ ns))
+  pub played : IfOk r (λ x. Plays t m bs ns x m' ns')

@@ -1,15 +1,18 @@
 // The slot manager's calls. None asks anything of its caller: whatever the numbers, the table and the memory, the outcome and every byte of memory
 // are what the definition's program for the call gives. 198 comes first, then 194, then 11.
+// Each command opens by itself and takes the slot apart by `let .. else`: a rule of the project. A shared opening would hand the table on, one copy more.
+// Each call on a slot has a twin by name in `formed`, which asks for a well-formed table and does not scan it: README.md and docs/CLAIMS.md name both.
 #![tactic(auto)]
 
 ghost use Rattle.std.specs.Prelude.{◌≡◌, length};
+ghost use Rattle.definition.specs.Refusals.{code_of};
 ghost use Rattle.definition.specs.Commands.{endpoint_call};
 ghost use Rattle.definition.specs.Calls.{set_limit, set_dcbaap, enable_slot, reset_all, disable_slot, address_device, configure_endpoint, evaluate_context, reset_device, stop_endpoint, reset_endpoint, set_dequeue, doorbell, host_ok, host_stall, host_transaction_error, host_trb_error, made};
 ghost use Rattle.registers.specs.Promises.{AnswersAlone};
 ghost use Rattle.commands.specs.Promises.{Answers, Settles};
 
-use addressing::Addressing;
-use definition::{Dequeue, Given, Input, Look, Lookup, Outcome, Table};
+use definition::Refusal::{NoEndpoint, NoSlot, Stray};
+use definition::{Dequeue, Input, Look, Outcome, Refusal, Table};
 
 // ---- the table and its registers
 
@@ -25,7 +28,7 @@ pub fn set_limit(t: Table, limit: u64) -> Outcome
     ensures { AnswersAlone (set_limit limit) t result }
 {
     if !scan::well_formed(t) {
-        return scan::refused(t, 198);
+        return scan::refuse(t, Refusal::Malformed);
     }
     registers::set_limit(t, limit)
 }
@@ -35,7 +38,7 @@ pub fn set_dcbaap(t: Table, dcbaap: u64) -> Outcome
     ensures { AnswersAlone (set_dcbaap dcbaap) t result }
 {
     if !scan::well_formed(t) {
-        return scan::refused(t, 198);
+        return scan::refuse(t, Refusal::Malformed);
     }
     registers::set_dcbaap(t, dcbaap)
 }
@@ -45,7 +48,7 @@ pub fn enable_slot(t: Table) -> Outcome
     ensures { AnswersAlone enable_slot t result }
 {
     if !scan::well_formed(t) {
-        return scan::refused(t, 198);
+        return scan::refuse(t, Refusal::Malformed);
     }
     registers::enable_slot(t)
 }
@@ -54,9 +57,8 @@ pub fn enable_slot(t: Table) -> Outcome
 pub fn reset_all(t: Table, mem: &mut [u8]) -> Outcome
     ensures { Answers reset_all t mem.old result mem.new }
 {
-    let code = scan::checks(t, mem.len() as u64);
-    if code != 0 {
-        return scan::refused(t, code);
+    if let Err(refusal) = scan::checks(t, mem.len() as u64) {
+        return scan::refuse(t, refusal);
     }
     registers::reset_all(t, mem)
 }
@@ -67,13 +69,12 @@ pub fn reset_all(t: Table, mem: &mut [u8]) -> Outcome
 pub fn disable_slot(t: Table, mem: &mut [u8], id: u64) -> Outcome
     ensures { Answers (disable_slot id) t mem.old result mem.new }
 {
-    let head = scan::opens(t, mem.len() as u64, id, 0);
-    if head.code != 0 {
-        return scan::refused(t, head.code);
-    }
-    let found = head.found;
-    let Lookup::Used(slot) = found else {
-        return scan::refused(t, 11);
+    let head = match scan::opens(t, mem.len() as u64, id, 0) {
+        Ok(head) => head,
+        Err(refusal) => return scan::refuse(t, refusal),
+    };
+    let Some(slot) = head.found else {
+        return scan::refuse(t, NoSlot);
     };
     commands::device::disable_slot(t, mem, id, slot)
 }
@@ -82,32 +83,29 @@ pub fn disable_slot(t: Table, mem: &mut [u8], id: u64) -> Outcome
 pub fn address_device(t: Table, mem: &mut [u8], id: u64, pointer: u64, bsr: bool) -> Outcome
     ensures { Answers (address_device id pointer bsr) t mem.old result mem.new }
 {
-    let head = scan::opens(t, mem.len() as u64, id, 1);
-    if head.code != 0 {
-        return scan::refused(t, head.code);
+    let head = match scan::opens(t, mem.len() as u64, id, 1) {
+        Ok(head) => head,
+        Err(refusal) => return scan::refuse(t, refusal),
+    };
+    let Some(slot) = head.found else {
+        return scan::refuse(t, NoSlot);
+    };
+    match addressing::attempt(mem, slot, head.endpoint, pointer, bsr) {
+        Ok(done) => addressing::applied(t, id, done),
+        Err(refusal) => scan::refuse(t, refusal),
     }
-    let found = head.found;
-    let Lookup::Used(slot) = found else {
-        return scan::refused(t, 11);
-    };
-    let done = match addressing::attempt(mem, slot, head.endpoint, pointer, bsr) {
-        Addressing::Refused(code) => return scan::refused(t, code),
-        Addressing::Done(done) => done,
-    };
-    addressing::applied(t, id, done)
 }
 
 // Configure Endpoint (xHCI 4.6.6).
 pub fn configure_endpoint(t: Table, mem: &mut [u8], id: u64, pointer: u64, dc: bool) -> Outcome
     ensures { Answers (configure_endpoint id pointer dc) t mem.old result mem.new }
 {
-    let head = scan::opens(t, mem.len() as u64, id, 0);
-    if head.code != 0 {
-        return scan::refused(t, head.code);
-    }
-    let found = head.found;
-    let Lookup::Used(slot) = found else {
-        return scan::refused(t, 11);
+    let head = match scan::opens(t, mem.len() as u64, id, 0) {
+        Ok(head) => head,
+        Err(refusal) => return scan::refuse(t, refusal),
+    };
+    let Some(slot) = head.found else {
+        return scan::refuse(t, NoSlot);
     };
     commands::configure::configure_endpoint(t, mem, id, slot, pointer, dc)
 }
@@ -116,13 +114,12 @@ pub fn configure_endpoint(t: Table, mem: &mut [u8], id: u64, pointer: u64, dc: b
 pub fn evaluate_context(t: Table, mem: &[u8], id: u64, pointer: u64) -> Outcome
     ensures { Answers (evaluate_context id pointer) t mem.now result mem.now }
 {
-    let head = scan::opens(t, mem.len() as u64, id, 0);
-    if head.code != 0 {
-        return scan::refused(t, head.code);
-    }
-    let found = head.found;
-    let Lookup::Used(slot) = found else {
-        return scan::refused(t, 11);
+    let head = match scan::opens(t, mem.len() as u64, id, 0) {
+        Ok(head) => head,
+        Err(refusal) => return scan::refuse(t, refusal),
+    };
+    let Some(slot) = head.found else {
+        return scan::refuse(t, NoSlot);
     };
     commands::device::evaluate_context(t, mem, id, slot, pointer)
 }
@@ -131,98 +128,104 @@ pub fn evaluate_context(t: Table, mem: &[u8], id: u64, pointer: u64) -> Outcome
 pub fn reset_device(t: Table, mem: &mut [u8], id: u64) -> Outcome
     ensures { Answers (reset_device id) t mem.old result mem.new }
 {
-    let head = scan::opens(t, mem.len() as u64, id, 0);
-    if head.code != 0 {
-        return scan::refused(t, head.code);
-    }
-    let found = head.found;
-    let Lookup::Used(slot) = found else {
-        return scan::refused(t, 11);
+    let head = match scan::opens(t, mem.len() as u64, id, 0) {
+        Ok(head) => head,
+        Err(refusal) => return scan::refuse(t, refusal),
+    };
+    let Some(slot) = head.found else {
+        return scan::refuse(t, NoSlot);
     };
     commands::device::reset_device(t, mem, id, slot)
 }
 
 // ---- calls that reach one endpoint
 
-// Endpoint i of slot id takes the input. `slotless` and `absent` are the codes where there is no such slot or endpoint.
+// Endpoint i of slot id takes the input. `slotless` and `absent` are the refusals where there is no such slot or endpoint.
 fn reach(
     t: Table,
     mem: &mut [u8],
     id: u64,
     i: u64,
     input: Input,
-    slotless: u64,
-    absent: u64,
+    slotless: Refusal,
+    absent: Refusal,
 ) -> Outcome
-    ensures { Settles (endpoint_call slotless absent id i input (length mem.old) t) t mem.old result mem.new }
+    ensures { Settles (endpoint_call (code_of slotless) (code_of absent) id i input (length mem.old) t) t mem.old result mem.new }
 {
-    let head = scan::opens(t, mem.len() as u64, id, i);
-    if head.code != 0 {
-        return scan::refused(t, head.code);
-    }
-    let found = head.found;
-    let Lookup::Used(slot) = found else {
-        return scan::refused(t, slotless);
+    let head = match scan::opens(t, mem.len() as u64, id, i) {
+        Ok(head) => head,
+        Err(refusal) => return scan::refuse(t, refusal),
     };
-    let settled = commands::reach::settle(head.endpoint, mem, slot, i, input, absent);
-    if settled.refused {
-        return scan::refused(t, settled.code);
+    let Some(slot) = head.found else {
+        return scan::refuse(t, slotless);
+    };
+    let Some(step) = commands::reach::settle(head.endpoint, mem, slot, i, input) else {
+        return scan::refuse(t, absent);
+    };
+    match step {
+        Ok(taken) => commands::reach::applied(t, id, i, taken),
+        Err(refusal) => scan::refuse(t, refusal),
     }
-    commands::reach::applied(t, id, i, settled)
 }
 
 // Stop Endpoint (xHCI 4.6.9).
 pub fn stop_endpoint(t: Table, mem: &mut [u8], id: u64, i: u64) -> Outcome
     ensures { Answers (stop_endpoint id i) t mem.old result mem.new }
 {
-    reach(t, mem, id, i, Input::Stop, 11, 12)
+    reach(t, mem, id, i, Input::Stop, NoSlot, NoEndpoint)
 }
 
 // Reset Endpoint (xHCI 4.6.8).
 pub fn reset_endpoint(t: Table, mem: &mut [u8], id: u64, i: u64) -> Outcome
     ensures { Answers (reset_endpoint id i) t mem.old result mem.new }
 {
-    reach(t, mem, id, i, Input::Reset, 11, 12)
+    reach(t, mem, id, i, Input::Reset, NoSlot, NoEndpoint)
 }
 
 // Set TR Dequeue Pointer (xHCI 4.6.10).
 pub fn set_dequeue(t: Table, mem: &mut [u8], id: u64, i: u64, place: Dequeue) -> Outcome
     ensures { Answers (set_dequeue id i place) t mem.old result mem.new }
 {
-    reach(t, mem, id, i, Input::SetDequeue(place), 11, 12)
+    reach(t, mem, id, i, Input::SetDequeue(place), NoSlot, NoEndpoint)
 }
 
 // A doorbell, with what the look at the ring reports (xHCI 4.7).
 pub fn doorbell(t: Table, mem: &mut [u8], id: u64, i: u64, look: Look) -> Outcome
     ensures { Answers (doorbell id i look) t mem.old result mem.new }
 {
-    reach(t, mem, id, i, Input::Doorbell(look), 11, 12)
+    reach(t, mem, id, i, Input::Doorbell(look), NoSlot, NoEndpoint)
 }
 
 // The host has finished the transfer; with what the next look at the ring reports.
 pub fn host_ok(t: Table, mem: &mut [u8], id: u64, i: u64, look: Look) -> Outcome
     ensures { Answers (host_ok id i look) t mem.old result mem.new }
 {
-    reach(t, mem, id, i, Input::Ok(look), 196, 196)
+    reach(t, mem, id, i, Input::Ok(look), Stray, Stray)
 }
 
 // The device has stalled.
-pub fn host_stall(t: Table, mem: &mut [u8], id: u64, i: u64, given: Given) -> Outcome
+pub fn host_stall(t: Table, mem: &mut [u8], id: u64, i: u64, given: Option<Dequeue>) -> Outcome
     ensures { Answers (host_stall id i given) t mem.old result mem.new }
 {
-    reach(t, mem, id, i, Input::Stall(given), 196, 196)
+    reach(t, mem, id, i, Input::Stall(given), Stray, Stray)
 }
 
 // The transfer has failed on the bus.
-pub fn host_transaction_error(t: Table, mem: &mut [u8], id: u64, i: u64, given: Given) -> Outcome
+pub fn host_transaction_error(
+    t: Table,
+    mem: &mut [u8],
+    id: u64,
+    i: u64,
+    given: Option<Dequeue>,
+) -> Outcome
     ensures { Answers (host_transaction_error id i given) t mem.old result mem.new }
 {
-    reach(t, mem, id, i, Input::TransactionError(given), 196, 196)
+    reach(t, mem, id, i, Input::TransactionError(given), Stray, Stray)
 }
 
 // The TRB is in error.
 pub fn host_trb_error(t: Table, mem: &mut [u8], id: u64, i: u64) -> Outcome
     ensures { Answers (host_trb_error id i) t mem.old result mem.new }
 {
-    reach(t, mem, id, i, Input::TrbError, 196, 196)
+    reach(t, mem, id, i, Input::TrbError, Stray, Stray)
 }

@@ -1,6 +1,6 @@
--- What was answered for one call was answered for another that is the same.
+-- What was answered for a call's program was answered for the call.
 -- Assumes nothing.
-use mathlib.Core.Path.{◌≡◌, sym, subst}
+use mathlib.Core.Path.{◌≡◌}
 use lib.ListN.{length}
 use Rattle.guest.specs.Prog.{Mem, Prog, Result}
 use Rattle.definition.specs.declared.Table.{Table}
@@ -10,11 +10,6 @@ use Rattle.definition.specs.Calls as calls
 use Rattle.definition.specs.Calls.{meaning, prog}
 use Rattle.scan.proofs.OpeningLaws.{meets_as}
 use Rattle.commands.specs.Promises.{Answers, Settles}
-use Rattle.trace.specs.declared.Call.{Call}
-use Rattle.trace.specs.Events.{call_of}
-
-pub answers_as : {c d : Call} → c ≡ d → (t : Table) (m : Mem) {r : Outcome} {m' : Mem} → Answers (call_of d) t m r m' → Answers (call_of c) t m r m'
-answers_as e t m {r} {m'} h = subst (λ (x : Call). Answers (call_of x) t m r m') (sym e) h
 
 -- its meaning is the part p, which was answered
 pub answers_meaning : (c : calls.Call) (t : Table) (m : Mem) {p : Prog (Result Told)} {r : Outcome} {m' : Mem}

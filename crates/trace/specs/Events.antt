@@ -6,6 +6,8 @@ use Rattle.trace.specs.declared.Call.TheVariants.{SetLimit, SetDcbaap, EnableSlo
 use Rattle.trace.specs.declared.Asked.{Asked}
 use Rattle.trace.specs.declared.Asked.TheVariants.{Stop, Reset, SetDequeue, Doorbell, Ok, Stall, TransactionError, TrbError}
 use Rattle.definition.specs.Calls as calls
+use Rattle.definition.specs.declared.Input.{Input}
+use Rattle.definition.specs.declared.Input.TheVariants as inputs
 
 unfoldable pub asks : ℕ → ℕ → Asked → calls.Call
 asks id i Stop = calls.stop_endpoint id i
@@ -28,3 +30,14 @@ call_of (EvaluateContext x) = calls.evaluate_context x.id x.pointer
 call_of (ResetDevice id) = calls.reset_device id
 call_of ResetAll = calls.reset_all
 call_of (Endpoint r) = asks r.id r.i r.asked
+
+-- what an endpoint is asked, as an input of it
+abbrev pub input_of : Asked → Input
+input_of Stop = inputs.Stop
+input_of Reset = inputs.Reset
+input_of (SetDequeue d) = inputs.SetDequeue d
+input_of (Doorbell l) = inputs.Doorbell l
+input_of (Ok l) = inputs.Ok l
+input_of (Stall g) = inputs.Stall g
+input_of (TransactionError g) = inputs.TransactionError g
+input_of TrbError = inputs.TrbError

@@ -1,2 +1,3 @@
 pub mod Events
+pub mod Kinds
 pub mod Records

@@ -1,20 +1,26 @@
--- What a record of 32 bytes tells: a call, a guest store of one byte, or nothing that it could. docs/TRACE.md has the same in tables.
+-- What a record of 32 bytes tells: a call, a guest store of one byte, or nothing that it could, which is an error. docs/TRACE.md has the same in tables.
 -- Assumes nothing.
-use Rattle.std.specs.Prelude.{◌≡◌, Bool, true, false, cond, ◌&&◌, ◌||◌, List, [], ◌∷◌, ℕ, eqb, ltb, length, get_or}
+use Rattle.std.specs.Prelude.{◌≡◌, Bool, true, false, cond, ◌&&◌, ◌||◌, List, [], ◌∷◌, ℕ, eqb, ltb, length, get_or, Result, Ok, Err}
 use Rattle.guest.specs.Bytes.{number, bit}
 use Rattle.guest.specs.Prog.{block}
 use Rattle.definition.specs.declared.Dequeue.{Dequeue}
 use Rattle.definition.specs.declared.Look.{Look}
-use Rattle.definition.specs.declared.Given.{Given}
-use Rattle.definition.specs.declared.Given.TheVariants.{At, Nowhere}
+use Rattle.std.specs.Prelude.{Option}
+use Rattle.std.specs.Prelude.{Some, None}
 use Rattle.trace.specs.declared.Entry.{Entry}
-use Rattle.trace.specs.declared.Entry.TheVariants.{Call, Store, Bad}
+use Rattle.trace.specs.declared.Entry.TheVariants.{Call, Store}
+use Rattle.trace.specs.declared.BadRecord.{BadRecord}
+use Rattle.trace.specs.declared.Call as declared
 use Rattle.trace.specs.declared.Call.TheVariants.{SetLimit, SetDcbaap, EnableSlot, DisableSlot, AddressDevice, ConfigureEndpoint, EvaluateContext, ResetDevice, ResetAll, Endpoint}
 use Rattle.trace.specs.declared.Contexts.{Contexts}
 use Rattle.trace.specs.declared.Asked.{Asked}
-use Rattle.trace.specs.declared.Asked.TheVariants.{Stop, Reset, SetDequeue, Doorbell, Ok, Stall, TransactionError, TrbError}
+use Rattle.trace.specs.declared.Asked.TheVariants.{Stop, Reset, SetDequeue, Doorbell, Stall, TransactionError, TrbError}
+use Rattle.trace.specs.declared.Asked.TheVariants as asked
 use Rattle.trace.specs.declared.record.Fields.{Fields}
+use Rattle.trace.specs.declared.record.Bits.{Bits}
+use Rattle.trace.specs.declared.record.Bits.TheVariants.{Neither, Low, Both}
 use Rattle.trace.specs.declared.record.Uses.{Uses}
+use Rattle.trace.specs.Kinds.{limit_of}
 
 -- ---- the layout
 
@@ -34,8 +40,8 @@ fields_of r =
 
 -- ---- which fields a kind uses
 
-abbrev uses : Bool → Bool → ℕ → Bool → Bool → Uses
-uses s e n p v = record { slot = s; endpoint = e; flags = n; pointer = p; value = v }
+abbrev uses : Bool → Bool → Bits → Bool → Bool → Uses
+uses s e b p v = record { slot = s; endpoint = e; bits = b; pointer = p; value = v }
 
 abbrev on : Bool
 on = true
@@ -45,49 +51,49 @@ no = false
 
 -- no field
 abbrev pub nothing : Uses
-nothing = uses no no 1 no no
+nothing = uses no no Neither no no
 
--- slot, endpoint, flag, pointer, value. The flag is below the number given: 1 where no bit is used, 2 where bit 0 is, 4 where bits 0 and 1 are
+-- slot, endpoint, bits of the flag, pointer, value
 abbrev pub kinds : List Uses
 kinds =
     -- 0 is no kind
     nothing
     -- 1 set limit
-    ∷ uses no no 1 no on
+    ∷ uses no no Neither no on
     -- 2 set DCBAAP
-    ∷ uses no no 1 on no
+    ∷ uses no no Neither on no
     -- 3 Enable Slot
-    ∷ uses no no 1 no no
+    ∷ uses no no Neither no no
     -- 4 Disable Slot
-    ∷ uses on no 1 no no
+    ∷ uses on no Neither no no
     -- 5 Address Device
-    ∷ uses on no 2 on no
+    ∷ uses on no Low on no
     -- 6 Configure Endpoint
-    ∷ uses on no 2 on no
+    ∷ uses on no Low on no
     -- 7 Evaluate Context
-    ∷ uses on no 1 on no
+    ∷ uses on no Neither on no
     -- 8 Reset Device
-    ∷ uses on no 1 no no
+    ∷ uses on no Neither no no
     -- 9 reset of all slots
-    ∷ uses no no 1 no no
+    ∷ uses no no Neither no no
     -- 10 Stop Endpoint
-    ∷ uses on on 1 no no
+    ∷ uses on on Neither no no
     -- 11 Reset Endpoint
-    ∷ uses on on 1 no no
+    ∷ uses on on Neither no no
     -- 12 Set Dequeue
-    ∷ uses on on 2 on no
+    ∷ uses on on Low on no
     -- 13 doorbell
-    ∷ uses on on 4 on no
+    ∷ uses on on Both on no
     -- 14 Ok
-    ∷ uses on on 4 on no
+    ∷ uses on on Both on no
     -- 15 Stall
-    ∷ uses on on 4 on no
+    ∷ uses on on Both on no
     -- 16 Transaction Error
-    ∷ uses on on 4 on no
+    ∷ uses on on Both on no
     -- 17 TRB Error
-    ∷ uses on on 1 no no
+    ∷ uses on on Neither no no
     -- 18 guest store
-    ∷ uses no no 1 on on
+    ∷ uses no no Neither on on
     ∷ []
 
 unfoldable pub uses_of : ℕ → Uses
@@ -104,7 +110,7 @@ clean u f =
     && (eqb f.rest 0
     && (zero_unless u.slot f.slot
     && (zero_unless u.endpoint f.endpoint
-    && (ltb f.flag u.flags
+    && (ltb f.flag (limit_of u.bits)
     && (zero_unless u.pointer f.pointer
     && zero_unless u.value f.value)))))
 
@@ -127,51 +133,57 @@ place_of f = record { pointer = f.pointer; cycle = low f }
 abbrev pub look_of : Fields → Look
 look_of f = record { found = high f; pointer = f.pointer; cycle = low f }
 
-abbrev pub given_of : Fields → Given
-given_of f = cond (high f) (At (place_of f)) Nowhere
+abbrev pub given_of : Fields → Option Dequeue
+given_of f = cond (high f) (Some (place_of f)) None
 
-abbrev pub reaches : Fields → Asked → Entry
-reaches f a = Call (Endpoint (record { id = f.slot; i = f.endpoint; asked = a }))
+abbrev pub reaches : Fields → Asked → declared.Call
+reaches f a = Endpoint (record { id = f.slot; i = f.endpoint; asked = a })
+
+abbrev pub calls : declared.Call → Result Entry BadRecord
+calls c = Ok (Call c)
+
+abbrev pub bad : Result Entry BadRecord
+bad = Err record {}
 
 -- a byte, stored inside a memory of len bytes
-abbrev pub store_of : ℕ → Fields → Entry
-store_of len f = cond (ltb f.value 256 && ltb f.pointer len) (Store (record { address = f.pointer; value = f.value })) Bad
+abbrev pub store_of : ℕ → Fields → Result Entry BadRecord
+store_of len f = cond (ltb f.value 256 && ltb f.pointer len) (Ok (Store (record { address = f.pointer; value = f.value }))) bad
 
 -- what each kind tells, from kind 0 on
-abbrev pub entries : ℕ → Fields → List Entry
+abbrev pub entries : ℕ → Fields → List (Result Entry BadRecord)
 entries len f =
-    Bad
-    ∷ Call (SetLimit f.value)
-    ∷ Call (SetDcbaap f.pointer)
-    ∷ Call EnableSlot
-    ∷ Call (DisableSlot f.slot)
-    ∷ Call (AddressDevice (contexts_of f))
-    ∷ Call (ConfigureEndpoint (contexts_of f))
-    ∷ Call (EvaluateContext (contexts_of f))
-    ∷ Call (ResetDevice f.slot)
-    ∷ Call ResetAll
-    ∷ reaches f Stop
-    ∷ reaches f Reset
-    ∷ reaches f (SetDequeue (place_of f))
-    ∷ reaches f (Doorbell (look_of f))
-    ∷ reaches f (Ok (look_of f))
-    ∷ reaches f (Stall (given_of f))
-    ∷ reaches f (TransactionError (given_of f))
-    ∷ reaches f TrbError
+    bad
+    ∷ calls (SetLimit f.value)
+    ∷ calls (SetDcbaap f.pointer)
+    ∷ calls EnableSlot
+    ∷ calls (DisableSlot f.slot)
+    ∷ calls (AddressDevice (contexts_of f))
+    ∷ calls (ConfigureEndpoint (contexts_of f))
+    ∷ calls (EvaluateContext (contexts_of f))
+    ∷ calls (ResetDevice f.slot)
+    ∷ calls ResetAll
+    ∷ calls (reaches f Stop)
+    ∷ calls (reaches f Reset)
+    ∷ calls (reaches f (SetDequeue (place_of f)))
+    ∷ calls (reaches f (Doorbell (look_of f)))
+    ∷ calls (reaches f (asked.Ok (look_of f)))
+    ∷ calls (reaches f (Stall (given_of f)))
+    ∷ calls (reaches f (TransactionError (given_of f)))
+    ∷ calls (reaches f TrbError)
     ∷ store_of len f
     ∷ []
 
 -- an unknown kind tells nothing
-unfoldable pub told : ℕ → Fields → Entry
-told len f = get_or (entries len f) f.kind Bad
+unfoldable pub told : ℕ → Fields → Result Entry BadRecord
+told len f = get_or (entries len f) f.kind bad
 
 -- ---- a record, over a memory of len bytes
 
-unfoldable pub entry_of : ℕ → List ℕ → Entry
+unfoldable pub entry_of : ℕ → List ℕ → Result Entry BadRecord
 entry_of len r =
     let f = fields_of r in
-    cond (eqb (length r) 32 && clean (uses_of f.kind) f) (told len f) Bad
+    cond (eqb (length r) 32 && clean (uses_of f.kind) f) (told len f) bad
 
 -- the fields tell r, whatever the memory's length
-abbrev pub Tells : Fields → Entry → Type 0
+abbrev pub Tells : Fields → Result Entry BadRecord → Type 0
 Tells f r = (len : ℕ) → r ≡ told len f

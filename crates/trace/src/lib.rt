@@ -4,15 +4,18 @@
 pub mod apply;
 pub mod record;
 
-use definition::{Dequeue, Given, Look};
+use definition::{Dequeue, Look};
 
-// What a record tells: a call, a guest store, or nothing that it could.
+// What a record tells: a call, or a guest store.
 #[derive(Clone, Copy)]
 pub enum Entry {
     Call(Call),
     Store(Byte),
-    Bad,
 }
+
+// The error of a bad record: not 32 bytes long, of no known kind, not zero where it has to be, or a store of no byte or outside the memory.
+#[derive(Clone, Copy)]
+pub struct BadRecord;
 
 // A guest store of one byte.
 #[derive(Clone, Copy)]
@@ -60,7 +63,7 @@ pub enum Asked {
     SetDequeue(Dequeue),
     Doorbell(Look),
     Ok(Look),
-    Stall(Given),
-    TransactionError(Given),
+    Stall(Option<Dequeue>),
+    TransactionError(Option<Dequeue>),
     TrbError,
 }

@@ -1,13 +1,15 @@
 // A record of 32 bytes: its fields, what is due zero, and what it tells.
-ghost use Rattle.std.specs.Prelude.{◌≡◌, ◌≤◌, ◌<◌, length};
-ghost use Rattle.trace.specs.Records.{fields_of, uses_of, zero_unless, clean, contexts_of, place_of, look_of, given_of, reaches, store_of, told, entry_of, Tells};
+ghost use Rattle.std.specs.Prelude.{◌≡◌};
+ghost use Rattle.trace.specs.Kinds.{number_of, limit_of, NamesKind};
+ghost use Rattle.trace.specs.Records.{fields_of, uses_of, zero_unless, clean, contexts_of, place_of, look_of, given_of, reaches, store_of, told, entry_of};
 
-use crate::{Asked, Byte, Call, Contexts, Entry, Reach};
-use definition::{Dequeue, Given, Look};
+use crate::{Asked, BadRecord, Byte, Call, Contexts, Entry, Reach};
+use definition::{Dequeue, Look};
 
 // The record's fields, with the bytes between and after them as numbers.
 #[derive(Clone, Copy)]
 pub struct Fields {
+    // As it stands there, known or not.
     pub kind: u8,
     pub slot: u64,
     pub endpoint: u64,
@@ -18,12 +20,89 @@ pub struct Fields {
     pub rest: u64,
 }
 
-// Which fields a kind uses. The flag is below `flags`: 1 where no bit is used, 2 where bit 0 is, 4 where bits 0 and 1 are.
+// What a record is: a call, or a guest store. docs/TRACE.md numbers them.
+#[derive(Clone, Copy)]
+pub enum Kind {
+    SetLimit,
+    SetDcbaap,
+    EnableSlot,
+    DisableSlot,
+    AddressDevice,
+    ConfigureEndpoint,
+    EvaluateContext,
+    ResetDevice,
+    ResetAll,
+    StopEndpoint,
+    ResetEndpoint,
+    SetDequeue,
+    Doorbell,
+    Ok,
+    Stall,
+    TransactionError,
+    TrbError,
+    GuestStore,
+}
+
+// A kind by its number; an unknown number is an error.
+impl TryFrom<u8> for Kind {
+    type Error = BadRecord;
+
+    ghost try_from_gives = { NamesKind };
+
+    fn try_from(number: u8) -> Result<Kind, BadRecord> {
+        match number {
+            1 => Ok(Kind::SetLimit),
+            2 => Ok(Kind::SetDcbaap),
+            3 => Ok(Kind::EnableSlot),
+            4 => Ok(Kind::DisableSlot),
+            5 => Ok(Kind::AddressDevice),
+            6 => Ok(Kind::ConfigureEndpoint),
+            7 => Ok(Kind::EvaluateContext),
+            8 => Ok(Kind::ResetDevice),
+            9 => Ok(Kind::ResetAll),
+            10 => Ok(Kind::StopEndpoint),
+            11 => Ok(Kind::ResetEndpoint),
+            12 => Ok(Kind::SetDequeue),
+            13 => Ok(Kind::Doorbell),
+            14 => Ok(Kind::Ok),
+            15 => Ok(Kind::Stall),
+            16 => Ok(Kind::TransactionError),
+            17 => Ok(Kind::TrbError),
+            18 => Ok(Kind::GuestStore),
+            _ => Err(BadRecord),
+        }
+    }
+}
+
+// ---- which fields a kind uses
+
+// Which bits of the flag are used: bit 0 is the low one, and both are bits 0 and 1.
+#[derive(Clone, Copy)]
+pub enum Bits {
+    Neither,
+    Low,
+    Both,
+}
+
+impl Bits {
+    // A flag with no other bit set is below it.
+    fn limit(self) -> u32
+        ensures { result ≡ limit_of self }
+    {
+        match self {
+            Bits::Neither => 1,
+            Bits::Low => 2,
+            Bits::Both => 4,
+        }
+    }
+}
+
+// Which fields a kind uses.
 #[derive(Clone, Copy)]
 pub struct Uses {
     pub slot: bool,
     pub endpoint: bool,
-    pub flags: u32,
+    pub bits: Bits,
     pub pointer: bool,
     pub value: bool,
 }
@@ -31,134 +110,90 @@ pub struct Uses {
 const NOTHING: Uses = Uses {
     slot: false,
     endpoint: false,
-    flags: 1,
+    bits: Bits::Neither,
     pointer: false,
     value: false,
 };
 
 const VALUE: Uses = Uses {
-    slot: false,
-    endpoint: false,
-    flags: 1,
-    pointer: false,
     value: true,
+    ..NOTHING
 };
 
 const POINTER: Uses = Uses {
-    slot: false,
-    endpoint: false,
-    flags: 1,
     pointer: true,
-    value: false,
+    ..NOTHING
 };
 
 const SLOT: Uses = Uses {
     slot: true,
-    endpoint: false,
-    flags: 1,
-    pointer: false,
-    value: false,
+    ..NOTHING
 };
 
 const CONTEXTS: Uses = Uses {
-    slot: true,
-    endpoint: false,
-    flags: 1,
     pointer: true,
-    value: false,
+    ..SLOT
 };
 
 const FLAGGED: Uses = Uses {
-    slot: true,
-    endpoint: false,
-    flags: 2,
-    pointer: true,
-    value: false,
+    bits: Bits::Low,
+    ..CONTEXTS
 };
 
 const ENDPOINT: Uses = Uses {
-    slot: true,
     endpoint: true,
-    flags: 1,
-    pointer: false,
-    value: false,
+    ..SLOT
 };
 
 const PLACE: Uses = Uses {
-    slot: true,
-    endpoint: true,
-    flags: 2,
+    bits: Bits::Low,
     pointer: true,
-    value: false,
+    ..ENDPOINT
 };
 
 const REPORT: Uses = Uses {
-    slot: true,
-    endpoint: true,
-    flags: 4,
-    pointer: true,
-    value: false,
+    bits: Bits::Both,
+    ..PLACE
 };
 
 const STORE: Uses = Uses {
-    slot: false,
-    endpoint: false,
-    flags: 1,
     pointer: true,
-    value: true,
+    ..VALUE
 };
 
-// By kind.
-const KINDS: [Uses; 19] = [
-    NOTHING, // 0. No kind.
-    VALUE, // 1. Set limit.
-    POINTER, // 2. Set DCBAAP.
-    NOTHING, // 3. Enable Slot.
-    SLOT, // 4. Disable Slot.
-    FLAGGED, // 5. Address Device.
-    FLAGGED, // 6. Configure Endpoint.
-    CONTEXTS, // 7. Evaluate Context.
-    SLOT, // 8. Reset Device.
-    NOTHING, // 9. Reset of all slots.
-    ENDPOINT, // 10. Stop Endpoint.
-    ENDPOINT, // 11. Reset Endpoint.
-    PLACE, // 12. Set Dequeue.
-    REPORT, // 13. Doorbell.
-    REPORT, // 14. Ok.
-    REPORT, // 15. Stall.
-    REPORT, // 16. Transaction Error.
-    ENDPOINT, // 17. TRB Error.
-    STORE, // 18. Guest store.
-];
+impl Kind {
+    // The fields that it uses.
+    #[tactic(auto, unfolding(crate::specs::Records::uses_of))]
+    fn uses(self) -> Uses
+        ensures { result ≡ uses_of (number_of self) }
+    {
+        match self {
+            Kind::EnableSlot | Kind::ResetAll => NOTHING,
+            Kind::SetLimit => VALUE,
+            Kind::SetDcbaap => POINTER,
+            Kind::DisableSlot | Kind::ResetDevice => SLOT,
+            Kind::EvaluateContext => CONTEXTS,
+            Kind::AddressDevice | Kind::ConfigureEndpoint => FLAGGED,
+            Kind::StopEndpoint | Kind::ResetEndpoint | Kind::TrbError => ENDPOINT,
+            Kind::SetDequeue => PLACE,
+            Kind::Doorbell | Kind::Ok | Kind::Stall | Kind::TransactionError => REPORT,
+            Kind::GuestStore => STORE,
+        }
+    }
+}
 
 // ---- the layout
 
-fn wide(b: u8) -> u64
-    ensures { result ≡ b }
-{
-    b as u64
-}
-
-fn narrow(b: u8) -> u32
-    ensures { result ≡ b }
-{
-    b as u32
-}
-
-// The fields of 32 bytes.
-fn read(bytes: &[u8]) -> Fields
-    requires { 32 ≤ length bytes.now }
+// The fields of a record.
+#[tactic(auto, unfolding(crate::specs::Records::fields_of))]
+fn read(bytes: &[u8; 32]) -> Fields
     ensures { result ≡ fields_of bytes.now }
 {
-    let kind = guest::words::read_byte(bytes, 0);
-    let slot = guest::words::read_byte(bytes, 1);
-    let endpoint = guest::words::read_byte(bytes, 2);
-    let flag = guest::words::read_byte(bytes, 3);
     Fields {
-        kind,
-        slot: wide(slot),
-        endpoint: wide(endpoint),
-        flag: narrow(flag),
+        kind: guest::words::read_byte(bytes, 0),
+        slot: u64::from(guest::words::read_byte(bytes, 1)),
+        endpoint: u64::from(guest::words::read_byte(bytes, 2)),
+        flag: u32::from(guest::words::read_byte(bytes, 3)),
         gap: guest::words::read_u32(bytes, 4),
         pointer: guest::words::read_u64(bytes, 8),
         value: guest::words::read_u64(bytes, 16),
@@ -166,188 +201,137 @@ fn read(bytes: &[u8]) -> Fields
     }
 }
 
-// ---- what is due zero
-
-// The fields that a kind uses.
-fn uses_of(kind: u8) -> Uses
-    ensures { result ≡ uses_of kind }
-{
-    let k = kind as usize;
-    if 18 < k {
-        return NOTHING;
-    }
-    KINDS[k]
-}
-
 // Zero, where the field is not used.
 fn zero_unless(used: bool, x: u64) -> bool
     ensures { result ≡ zero_unless used x }
 {
-    if used { true } else { x == 0 }
+    used || x == 0
 }
 
-// All that is due zero is zero.
-fn is_clean(uses: Uses, f: Fields) -> bool
-    ensures { result ≡ clean uses f }
-{
-    if f.gap != 0 {
-        return false;
+impl Fields {
+    // All that is due zero is zero.
+    #[tactic(auto, unfolding(crate::specs::Records::clean))]
+    fn is_clean(self, uses: Uses) -> bool
+        ensures { result ≡ clean uses self }
+    {
+        self.gap == 0
+            && self.rest == 0
+            && zero_unless(uses.slot, self.slot)
+            && zero_unless(uses.endpoint, self.endpoint)
+            && self.flag < uses.bits.limit()
+            && zero_unless(uses.pointer, self.pointer)
+            && zero_unless(uses.value, self.value)
     }
-    if f.rest != 0 {
-        return false;
-    }
-    if !zero_unless(uses.slot, f.slot) {
-        return false;
-    }
-    if !zero_unless(uses.endpoint, f.endpoint) {
-        return false;
-    }
-    if f.flag >= uses.flags {
-        return false;
-    }
-    if !zero_unless(uses.pointer, f.pointer) {
-        return false;
-    }
-    zero_unless(uses.value, f.value)
-}
 
-// ---- what the fields mean
+    // ---- what the fields mean
 
-// A command over an input context.
-fn contexts(f: Fields) -> Contexts
-    ensures { result ≡ contexts_of f }
-{
-    Contexts {
-        id: f.slot,
-        pointer: f.pointer,
-        flag: guest::bits::flag(f.flag, 0),
+    // A command over an input context.
+    fn contexts(self) -> Contexts
+        ensures { result ≡ contexts_of self }
+    {
+        Contexts {
+            id: self.slot,
+            pointer: self.pointer,
+            flag: guest::bits::flag(self.flag, 0),
+        }
     }
-}
 
-// A place on a transfer ring.
-fn place(f: Fields) -> Dequeue
-    ensures { result ≡ place_of f }
-{
-    Dequeue {
-        pointer: f.pointer,
-        cycle: guest::bits::flag(f.flag, 0),
+    // A place on a transfer ring.
+    fn place(self) -> Dequeue
+        ensures { result ≡ place_of self }
+    {
+        Dequeue {
+            pointer: self.pointer,
+            cycle: guest::bits::flag(self.flag, 0),
+        }
     }
-}
 
-// A look report.
-fn look(f: Fields) -> Look
-    ensures { result ≡ look_of f }
-{
-    Look {
-        found: guest::bits::flag(f.flag, 1),
-        pointer: f.pointer,
-        cycle: guest::bits::flag(f.flag, 0),
+    // A look report.
+    fn look(self) -> Look
+        ensures { result ≡ look_of self }
+    {
+        Look {
+            found: guest::bits::flag(self.flag, 1),
+            pointer: self.pointer,
+            cycle: guest::bits::flag(self.flag, 0),
+        }
     }
-}
 
-// The place that a host event brings, where it is given.
-fn given(f: Fields) -> Given
-    ensures { result ≡ given_of f }
-{
-    if guest::bits::flag(f.flag, 1) {
-        return Given::At(place(f));
+    // The place that a host event brings, where it is given.
+    fn given(self) -> Option<Dequeue>
+        ensures { result ≡ given_of self }
+    {
+        if guest::bits::flag(self.flag, 1) {
+            Some(self.place())
+        } else {
+            None
+        }
     }
-    Given::Nowhere
-}
 
-// A call that reaches an endpoint.
-fn reach(f: Fields, asked: Asked) -> Entry
-    ensures { result ≡ reaches f asked }
-{
-    Entry::Call(Call::Endpoint(Reach {
-        id: f.slot,
-        i: f.endpoint,
-        asked,
-    }))
-}
+    // A call that reaches an endpoint.
+    fn reach(self, asked: Asked) -> Call
+        ensures { result ≡ reaches self asked }
+    {
+        Call::Endpoint(Reach {
+            id: self.slot,
+            i: self.endpoint,
+            asked,
+        })
+    }
 
-// A guest store of a byte inside a memory of `length` bytes.
-fn store(f: Fields, length: u64) -> Entry
-    ensures { result ≡ store_of length f }
-{
-    let address = f.pointer;
-    let value = f.value;
-    if value >= 256 {
-        return Entry::Bad;
+    // A guest store of a byte inside a memory of `length` bytes.
+    fn store(self, length: u64) -> Result<Entry, BadRecord>
+        ensures { result ≡ store_of length self }
+    {
+        let value = u8::try_from(self.value).map_err(|_| BadRecord)?;
+        if self.pointer >= length {
+            return Err(BadRecord);
+        }
+        Ok(Entry::Store(Byte {
+            address: self.pointer,
+            value,
+        }))
     }
-    if address < length {
-        return Entry::Store(Byte {
-            address,
-            value: value as u8,
-        });
-    }
-    Entry::Bad
-}
 
-// Kinds 1 to 9: the calls on the table and on slots.
-fn slot_call(f: Fields) -> Entry
-    requires { f.kind < 10 }
-    ensures { Tells f result }
-{
-    let kind = f.kind;
-    match kind {
-        1 => Entry::Call(Call::SetLimit(f.value)),
-        2 => Entry::Call(Call::SetDcbaap(f.pointer)),
-        3 => Entry::Call(Call::EnableSlot),
-        4 => Entry::Call(Call::DisableSlot(f.slot)),
-        5 => Entry::Call(Call::AddressDevice(contexts(f))),
-        6 => Entry::Call(Call::ConfigureEndpoint(contexts(f))),
-        7 => Entry::Call(Call::EvaluateContext(contexts(f))),
-        8 => Entry::Call(Call::ResetDevice(f.slot)),
-        9 => Entry::Call(Call::ResetAll),
-        _ => Entry::Bad,
+    // What they tell, over a memory of `length` bytes.
+    #[tactic(auto, unfolding(crate::specs::Records::told))]
+    fn tell(self, kind: Kind, length: u64) -> Result<Entry, BadRecord>
+        requires { self.kind ≡ number_of kind }
+        ensures { result ≡ told length self }
+    {
+        Ok(Entry::Call(match kind {
+            Kind::SetLimit => Call::SetLimit(self.value),
+            Kind::SetDcbaap => Call::SetDcbaap(self.pointer),
+            Kind::EnableSlot => Call::EnableSlot,
+            Kind::DisableSlot => Call::DisableSlot(self.slot),
+            Kind::AddressDevice => Call::AddressDevice(self.contexts()),
+            Kind::ConfigureEndpoint => Call::ConfigureEndpoint(self.contexts()),
+            Kind::EvaluateContext => Call::EvaluateContext(self.contexts()),
+            Kind::ResetDevice => Call::ResetDevice(self.slot),
+            Kind::ResetAll => Call::ResetAll,
+            Kind::StopEndpoint => self.reach(Asked::Stop),
+            Kind::ResetEndpoint => self.reach(Asked::Reset),
+            Kind::SetDequeue => self.reach(Asked::SetDequeue(self.place())),
+            Kind::Doorbell => self.reach(Asked::Doorbell(self.look())),
+            Kind::Ok => self.reach(Asked::Ok(self.look())),
+            Kind::Stall => self.reach(Asked::Stall(self.given())),
+            Kind::TransactionError => self.reach(Asked::TransactionError(self.given())),
+            Kind::TrbError => self.reach(Asked::TrbError),
+            Kind::GuestStore => return self.store(length),
+        }))
     }
-}
-
-// Kinds 10 to 17: the calls that reach an endpoint. No kind above 18 is known.
-fn endpoint_call(f: Fields) -> Entry
-    requires { (10 ≤ f.kind) × (f.kind ≡ 18 → ⊥) }
-    ensures { Tells f result }
-{
-    let kind = f.kind;
-    match kind {
-        10 => reach(f, Asked::Stop),
-        11 => reach(f, Asked::Reset),
-        12 => reach(f, Asked::SetDequeue(place(f))),
-        13 => reach(f, Asked::Doorbell(look(f))),
-        14 => reach(f, Asked::Ok(look(f))),
-        15 => reach(f, Asked::Stall(given(f))),
-        16 => reach(f, Asked::TransactionError(given(f))),
-        17 => reach(f, Asked::TrbError),
-        _ => Entry::Bad,
-    }
-}
-
-// What the fields tell.
-fn tell(f: Fields, length: u64) -> Entry
-    ensures { result ≡ told length f }
-{
-    let kind = f.kind;
-    if kind < 10 {
-        return slot_call(f);
-    }
-    if kind == 18 {
-        return store(f, length);
-    }
-    endpoint_call(f)
 }
 
 // What a record tells, over a memory of `length` bytes.
-pub fn decode(bytes: &[u8], length: u64) -> Entry
+#[tactic(auto, unfolding(crate::specs::Records::entry_of, crate::specs::Records::told))]
+pub fn decode(bytes: &[u8], length: u64) -> Result<Entry, BadRecord>
     ensures { result ≡ entry_of length bytes.now }
 {
-    if bytes.len() != 32 {
-        return Entry::Bad;
+    let record = <&[u8; 32]>::try_from(bytes).map_err(|_| BadRecord)?;
+    let fields = read(record);
+    let kind = Kind::try_from(fields.kind)?;
+    if !fields.is_clean(kind.uses()) {
+        return Err(BadRecord);
     }
-    let f = read(bytes);
-    let uses = uses_of(f.kind);
-    if !is_clean(uses, f) {
-        return Entry::Bad;
-    }
-    tell(f, length)
+    fields.tell(kind, length)
 }

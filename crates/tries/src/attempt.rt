@@ -1,75 +1,78 @@
-// One call, tried and written down. Each is given a table, and a memory that it makes and fills.
-use crate::setting::Guest;
-use crate::{show, sums};
-use calls::Try;
-use definition::Table;
-use std::io;
+// One call, tried and written down: the call with its numbers, the answer's eight numbers, and the checksums after the call. Each is given a table, and a
+// memory that it makes and fills.
+use crate::setting;
+use crate::setting::Setting;
+use crate::sums::Sums;
+use calls::{Call, Shown, Try};
+use definition::{Outcome, Table};
 use std::io::Write;
-
-// No flags are set, and slot 2's device context is to be at 1536.
-pub const PLAIN: Guest = Guest {
-    base: 1536,
-    flags: 0,
-    kind: 0,
-};
+use std::{fmt, io};
 
 fn run<W: Write>(out: &mut W, t: Table, mem: &mut [u8], x: Try) -> io::Result<()> {
-    let table = sums::table(t);
-    let memory = sums::memory(mem);
-    let r = calls::make(t, mem, x);
-    let u = r.table;
-    let a = r.answer;
-    show::attempt(out, x)?;
-    show::answer(out, a)?;
-    show::compare(out, table, memory, sums::table(u), sums::memory(mem))
+    let before = Sums::of(&t, mem);
+    let Outcome { table, answer } = calls::make(t, mem, x);
+    let after = Sums::of(&table, mem);
+    let change = if before == after { "same" } else { "changed" };
+    writeln!(out, "{x} | {} | {after} {change}", Shown(answer))
 }
 
-// A call that is lent this many bytes, at most 4097.
-pub fn call<W: Write>(out: &mut W, t: Table, g: Guest, n: usize, x: Try) -> io::Result<()> {
-    let mut mem = [0u8; 4097];
-    if n <= 4097 {
-        crate::setting::fill(&mut mem, g);
-        run(out, t, &mut mem[0..n], x)?;
+// Nothing is tried where more than 4097 bytes are to be lent.
+pub fn call<W: Write>(out: &mut W, s: Setting, x: Try) -> io::Result<()> {
+    let mut mem = setting::memory(s.guest);
+    match mem.get_mut(..s.lent) {
+        Some(lent) => run(out, s.table, lent, x),
+        None => Ok(()),
     }
-    Ok(())
 }
 
 // A call on the well formed table and its own memory.
-pub fn plain<W: Write>(out: &mut W, call: usize, id: u64, i: u64, pointer: u64) -> io::Result<()> {
-    crate::attempt::call(
-        out,
-        crate::setting::table(),
-        PLAIN,
-        4096,
-        Try {
-            call,
-            id,
-            i,
-            pointer,
-            flag: true,
-        },
-    )
+pub fn plain<W: Write>(out: &mut W, x: Try) -> io::Result<()> {
+    call(out, Setting::default(), x)
 }
 
-// Every call that takes a table, under a heading: the length, the ids. All bring the same pointer.
-pub fn every<W: Write>(out: &mut W, t: Table, n: usize, id: u64, i: u64) -> io::Result<()> {
-    show::every(out, n, id, i)?;
-    let mut c: usize = 0;
-    while c < 17 {
+// What the calls under a heading share: how many bytes they are lent, and the ids.
+#[derive(Clone, Copy)]
+pub struct Heading {
+    pub lent: usize,
+    pub id: u64,
+    pub i: u64,
+}
+
+impl Heading {
+    // All of the memory, and an endpoint that is in use.
+    pub const PLAIN: Heading = Heading {
+        lent: 4096,
+        id: 1,
+        i: 2,
+    };
+}
+
+impl fmt::Display for Heading {
+    fn fmt<W: fmt::Write>(&self, f: &mut fmt::Formatter<W>) -> fmt::Result {
+        write!(f, "every {} {} {}", self.lent, self.id, self.i)
+    }
+}
+
+// Every call, on this table, under its heading. All bring the same pointer.
+pub fn every<W: Write>(out: &mut W, table: Table, h: Heading) -> io::Result<()> {
+    writeln!(out, "{h}")?;
+    let s = Setting {
+        table,
+        lent: h.lent,
+        ..Setting::default()
+    };
+    for c in Call::ALL {
         call(
             out,
-            t,
-            PLAIN,
-            n,
+            s,
             Try {
                 call: c,
-                id,
-                i,
+                id: h.id,
+                i: h.i,
                 pointer: 2048,
                 flag: false,
             },
         )?;
-        c += 1;
     }
     Ok(())
 }

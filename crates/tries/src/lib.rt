@@ -2,6 +2,6 @@
 #![tactic(auto)]
 
 pub mod attempt;
+pub mod record;
 pub mod setting;
-pub mod show;
 pub mod sums;

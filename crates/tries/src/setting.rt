@@ -1,7 +1,7 @@
 // The table and the memory that the calls are tried on.
-ghost use Rattle.std.specs.Prelude.{◌≤◌, length};
-
+use crate::record::Record;
 use definition::{Endpoint, EndpointState, Slot, SlotState, Table};
+use guest::words;
 
 // What the guest's memory holds: the base in slot 2's DCBAA entry, the flags in the input contexts, and a type byte.
 #[derive(Clone, Copy)]
@@ -11,82 +11,93 @@ pub struct Guest {
     pub kind: u64,
 }
 
-const FREE: Slot = Slot {
-    state: SlotState::Free,
-    base: 0,
-    entry: 0,
-};
-
-const DISABLED: Endpoint = Endpoint {
-    state: EndpointState::Disabled,
-    cycle: false,
-    pointer: 0,
-};
-
-// The table with another record at this index of the slots.
-pub fn with_slot(t: Table, at: usize, state: SlotState, base: u64, entry: u64) -> Table {
-    let mut u = t;
-    if at < 16 {
-        u.slots[at] = Slot { state, base, entry };
-    }
-    u
+impl Guest {
+    // No flags are set, and slot 2's device context is to be at 1536.
+    pub const PLAIN: Guest = Guest {
+        base: 1536,
+        flags: 0,
+        kind: 0,
+    };
 }
 
-// The table with another record at this index of the flat run.
-pub fn with_endpoint(
-    t: Table,
-    at: usize,
-    state: EndpointState,
-    cycle: bool,
-    pointer: u64,
-) -> Table {
-    let mut u = t;
-    if at < 496 {
-        u.endpoints[at] = Endpoint {
+// A table, the guest, and how many bytes of its memory are lent, at most 4097.
+#[derive(Clone, Copy)]
+pub struct Setting {
+    pub table: Table,
+    pub guest: Guest,
+    pub lent: usize,
+}
+
+impl Default for Setting {
+    // The well formed table and its own memory.
+    fn default() -> Self {
+        Setting {
+            table: table(),
+            guest: Guest::PLAIN,
+            lent: 4096,
+        }
+    }
+}
+
+// Slot 1 is Configured, 2 Enabled, 3 Default, and 16, above the limit, is Addressed: its contexts end where memory does.
+fn slots(mut t: Table) -> Table {
+    for (at, state, base, entry) in [
+        (0, SlotState::Configured, 1024, 264),
+        (1, SlotState::Enabled, 0, 272),
+        (2, SlotState::Default, 2560, 280),
+        (15, SlotState::Addressed, 4032, 384),
+    ] {
+        t = Slot { state, base, entry }.put(t, at);
+    }
+    t
+}
+
+// Endpoints 1 to 6 of slot 1 are in the six resting states, and endpoint 31 waits. Endpoint 1 of slots 3 and 16 waits.
+fn endpoints(mut t: Table) -> Table {
+    for (at, state, cycle, pointer) in [
+        (0, EndpointState::Waiting, true, 3072),
+        (1, EndpointState::InFlight, false, 3088),
+        (2, EndpointState::Halted, true, 3104),
+        (3, EndpointState::Error, false, 3120),
+        (4, EndpointState::StoppedContinuable, true, 3136),
+        (5, EndpointState::Stopped, false, 3152),
+        (30, EndpointState::Waiting, true, 3168),
+        (62, EndpointState::Waiting, false, 3184),
+        (465, EndpointState::Waiting, true, 3200),
+    ] {
+        t = Endpoint {
             state,
             cycle,
             pointer,
-        };
+        }
+        .put(t, at);
     }
-    u
+    t
 }
 
-// Slot 1 is Configured, 2 Enabled, 3 Default, and 16, above the limit, is Addressed: its contexts end where memory does. In the last two endpoint 1 waits.
-fn slots() -> Table {
-    let empty = Table {
+// Well formed, for 4096 bytes.
+pub fn table() -> Table {
+    endpoints(slots(Table {
         limit: 4,
         length: 4096,
         dcbaap: 256,
-        slots: [FREE; 16],
-        endpoints: [DISABLED; 496],
-    };
-    let t = with_slot(empty, 0, SlotState::Configured, 1024, 264);
-    let u = with_slot(t, 1, SlotState::Enabled, 0, 272);
-    let v = with_slot(u, 2, SlotState::Default, 2560, 280);
-    let w = with_slot(v, 15, SlotState::Addressed, 4032, 384);
-    let x = with_endpoint(w, 62, EndpointState::Waiting, false, 3184);
-    with_endpoint(x, 465, EndpointState::Waiting, true, 3200)
-}
-
-// Well formed, for 4096 bytes. Endpoints 1 to 6 of slot 1 are in the six resting states, and endpoint 31 waits.
-pub fn table() -> Table {
-    let t = with_endpoint(slots(), 0, EndpointState::Waiting, true, 3072);
-    let u = with_endpoint(t, 1, EndpointState::InFlight, false, 3088);
-    let v = with_endpoint(u, 2, EndpointState::Halted, true, 3104);
-    let w = with_endpoint(v, 3, EndpointState::Error, false, 3120);
-    let x = with_endpoint(w, 4, EndpointState::StoppedContinuable, true, 3136);
-    let y = with_endpoint(x, 5, EndpointState::Stopped, false, 3152);
-    with_endpoint(y, 30, EndpointState::Waiting, true, 3168)
+        slots: [Slot::FREE; 16],
+        endpoints: [Endpoint::DISABLED; 496],
+    }))
 }
 
 // Slot 2's DCBAA entry is at 272. Input contexts are at 2048, where endpoint 1 has a type and a dequeue word, and at 4032.
-pub fn fill(mem: &mut [u8], g: Guest)
-    requires { 4097 ≤ length mem.old }
-{
-    guest::words::store_u64(mem, 272, g.base);
-    guest::words::store_u64(mem, 2048, g.flags);
-    guest::words::store_u64(mem, 4032, g.flags);
-    guest::words::store_u64(mem, 2112, g.kind);
-    guest::words::store_u64(mem, 2120, 3073);
-    guest::words::store_u64(mem, 1024, 0x0005_0000_0000_0000);
+pub(crate) fn memory(g: Guest) -> [u8; 4097] {
+    let mut mem = [0; 4097];
+    for (at, n) in [
+        (272, g.base),
+        (2048, g.flags),
+        (4032, g.flags),
+        (2112, g.kind),
+        (2120, 3073),
+        (1024, 0x0005_0000_0000_0000),
+    ] {
+        words::store_u64(&mut mem, at, n);
+    }
+    mem
 }

@@ -1,5 +1,7 @@
 // Checksums over every field of a table and over every byte of memory, so that a change of either shows.
-use definition::{EndpointState, SlotState, Table};
+use crate::record::Record;
+use definition::Table;
+use std::fmt;
 
 // A sum with 32 bits more: sum times 16777619, plus the bits, modulo the prime 4294967291.
 fn half(sum: u64, bits: u64) -> u64 {
@@ -13,71 +15,40 @@ fn whole(sum: u64, n: u64) -> u64 {
     half(half(sum, n), n / 4294967296)
 }
 
-pub fn slot_number(state: SlotState) -> u64 {
-    match state {
-        SlotState::Free => 0,
-        SlotState::Enabled => 1,
-        SlotState::Default => 2,
-        SlotState::Addressed => 3,
-        SlotState::Configured => 4,
+fn numbers(sum: u64, ns: [u64; 3]) -> u64 {
+    ns.into_iter().fold(sum, whole)
+}
+
+fn records<R: Record>(sum: u64, rs: &[R]) -> u64 {
+    rs.iter().fold(sum, |n, r| numbers(n, r.numbers()))
+}
+
+pub fn table(t: &Table) -> u64 {
+    let n = numbers(0, [t.limit, t.length, t.dcbaap]);
+    records(records(n, &t.slots), &t.endpoints)
+}
+
+fn memory(mem: &[u8]) -> u64 {
+    mem.iter().fold(0, |n, b| half(n, u64::from(*b)))
+}
+
+#[derive(Clone, Copy, PartialEq, Eq)]
+pub(crate) struct Sums {
+    table: u64,
+    memory: u64,
+}
+
+impl Sums {
+    pub(crate) fn of(t: &Table, mem: &[u8]) -> Self {
+        Sums {
+            table: table(t),
+            memory: memory(mem),
+        }
     }
 }
 
-pub fn endpoint_number(state: EndpointState) -> u64 {
-    match state {
-        EndpointState::Disabled => 0,
-        EndpointState::Waiting => 1,
-        EndpointState::InFlight => 2,
-        EndpointState::Halted => 3,
-        EndpointState::Error => 4,
-        EndpointState::StoppedContinuable => 5,
-        EndpointState::Stopped => 6,
+impl fmt::Display for Sums {
+    fn fmt<W: fmt::Write>(&self, f: &mut fmt::Formatter<W>) -> fmt::Result {
+        write!(f, "{} {}", self.table, self.memory)
     }
-}
-
-fn slots(sum: u64, t: Table) -> u64 {
-    let mut n = sum;
-    let mut i: usize = 0;
-    while i < 16 {
-        let s = t.slots[i];
-        let state = s.state;
-        n = whole(n, slot_number(state));
-        n = whole(n, s.base);
-        n = whole(n, s.entry);
-        i += 1;
-    }
-    n
-}
-
-fn endpoints(sum: u64, t: Table) -> u64 {
-    let mut n = sum;
-    let mut i: usize = 0;
-    while i < 496 {
-        let e = t.endpoints[i];
-        let state = e.state;
-        n = whole(n, endpoint_number(state));
-        n = whole(n, e.cycle as u64);
-        n = whole(n, e.pointer);
-        i += 1;
-    }
-    n
-}
-
-pub fn table(t: Table) -> u64 {
-    let n = whole(whole(whole(0, t.limit), t.length), t.dcbaap);
-    endpoints(slots(n, t), t)
-}
-
-fn wide(b: u8) -> u64 {
-    b as u64
-}
-
-pub fn memory(mem: &[u8]) -> u64 {
-    let mut n: u64 = 0;
-    let mut i: usize = 0;
-    while i < mem.len() {
-        n = half(n, wide(mem[i]));
-        i += 1;
-    }
-    n
 }

@@ -1,55 +1,29 @@
 -- Laws of the walk over all slots: each slot's endpoints are terminated, and the slot is freed.
 -- Assumes nothing.
-use mathlib.Core.Path.{◌≡◌}
-use mathlib.Core.Bool.{true}
-use Prim.Native.Nat.{ℕ, ◌+◌, ◌-◌, ◌*◌, ◌≤◌, ◌<◌}
+use mathlib.Core.Path.{◌≡◌, ◌∙◌}
+use mathlib.Core.List.{List}
+use Prim.Native.Nat.{ℕ, ◌+◌, ◌-◌, ◌*◌, ◌^◌, ◌≤◌, ◌<◌}
 use native.Mathlib.Omega.{arith}
 use lib.ListN.{length}
-use Rattle.guest.specs.Bytes.{◌⊕◌, count}
+use Rattle.guest.specs.Bytes.{count}
 use Rattle.guest.specs.Prog.{Mem, Prog, done, bind}
 use Rattle.guest.proofs.LoopLaws.{Loop, loop_begins, loop_goes, loop_ends}
 use Rattle.guest.proofs.ListLaws.{count_first, count_none}
+use Rattle.guest.proofs.RunLaws.{ends_from, ends_value}
+use Rattle.definition.specs.declared.Endpoint.{Endpoint}
 use Rattle.definition.specs.declared.Table.{Table}
-use Rattle.definition.specs.Table.{is_disabled, free, endpoint_of, slot_of, with_endpoint, with_slot}
-use Rattle.definition.specs.Walks.{terminate, terminate_all}
+use Rattle.definition.specs.Table.{free, slot_of, with_slot}
 use Rattle.definition.specs.Commands.{freeing}
-use Rattle.definition.proofs.TableLaws.{endpoint_elsewhere, endpoint_slot, slot_endpoint, slot_other}
-use Rattle.endpoint.specs.Promises.{Terminates}
-use Rattle.endpoint.specs.declared.Terminated.{Terminated}
+use Rattle.definition.proofs.TableLaws.{IsSlot, endpoint_slot, slot_other}
 use Rattle.walks.specs.declared.Freed.{Freed}
-use Rattle.walks.specs.Promises.{Rooms, AllRooms, FreesAll}
-use Rattle.walks.proofs.WalkLaws.{Ending, ending_begins, ending_goes, ending_passes}
-use Rattle.guest.proofs.RunLaws.{ends_value}
+use Rattle.walks.specs.declared.Marks.{Marks}
+use Rattle.walks.specs.Promises.{with_records, Rooms, RoomsIn, EndsFlagged, AllRooms, FreesAll}
+use Rattle.walks.proofs.RecordLaws.{records_of, records_rooms, records_elsewhere, records_slot, records_size, records_length}
+use Rattle.walks.proofs.WalkLaws.{ended_from}
 
 -- each enabled endpoint of the slots from id on has its context in memory
 abbrev RoomsFrom : ℕ → Table → ℕ → Type 0
 RoomsFrom id u len = (j : ℕ) → id ≤ j → j ≤ 16 → Rooms u j (slot_of u j).base 1 len
-
--- ---- one slot, on its way: the endpoints from i on are left. No mask is kept
-
-pub record Clearing (id base : ℕ) (t : Table) (m₀ : Mem) (s₀ : ℕ) (i : ℕ) (u : Table) (m : Mem) (s : ℕ) : Type 0 where
-  pub mask : ℕ
-  pub ending : Ending id base 1 (count 31 1) t m₀ s₀ (count (32 - i) i) i u mask m s
-  pub later : RoomsFrom (id + 1) u (length m₀)
-
-pub clearing_goes : {id base : ℕ} {t : Table} {m₀ : Mem} {s₀ : ℕ} {i : ℕ} {u : Table} {m : Mem} {s : ℕ} → Clearing id base t m₀ s₀ i u m s
-    → 1 ≤ id → i < 32 → {r : Terminated} {m' : Mem} → Terminates (endpoint_of u id i) (base ⊕ 32 * i) m r m' → length m' ≡ length m
-    → Clearing id base t m₀ s₀ (i + 1) (with_endpoint u id i r.endpoint) m' (s + r.stored)
-clearing_goes {id} {i = i} {u = u} g one l {r} d n =
-    record {
-      mask = _;
-      ending = ending_goes g.ending (omega arith) l (count_first 32 i l) d n;
-      later =
-          λ j a b k p q.
-          rw (endpoint_elsewhere u id i j k r.endpoint one (omega arith) (λ e. omega arith) (g.ending.low, omega arith) (p, q), slot_endpoint u id i r.endpoint j)
-          (g.later j a b k p q);
-    }
-
--- endpoint i is disabled, and passed over
-pub clearing_passes : {id base : ℕ} {t : Table} {m₀ : Mem} {s₀ : ℕ} {i : ℕ} {u : Table} {m : Mem} {s : ℕ} → Clearing id base t m₀ s₀ i u m s
-    → i < 32 → is_disabled (endpoint_of u id i) ≡ true → Clearing id base t m₀ s₀ (i + 1) u m s
-clearing_passes {i = i} g l d =
-    record { mask = g.mask; ending = ending_passes g.ending (omega arith) l (count_first 32 i l) d; later = g.later }
 
 -- ---- all slots, on their way: those from id on are left
 
@@ -62,38 +36,47 @@ pub record Freeing (t : Table) (m₀ : Mem) (id : ℕ) (u : Table) (m : Mem) (s 
   pub loop : Loop free_one (count 16 1) t m₀ 0 (count (17 - id) id) u m s
   pub few : s + 31 ≤ 31 * id
   pub rooms : RoomsFrom id u (length m₀)
+  pub size : length u.endpoints ≡ 496
 
-pub freeing_begins : (t : Table) (m : Mem) → AllRooms t (length m) → Freeing t m 1 t m 0
-freeing_begins t m r =
-    record { low = omega arith; high = omega arith; loop = loop_begins free_one (count 16 1) t m 0; few = omega arith; rooms = r }
+pub freeing_begins : (t : Table) (m : Mem) → length t.endpoints ≡ 496 → AllRooms t (length m) → Freeing t m 1 t m 0
+freeing_begins t m z r =
+    record { low = omega arith; high = omega arith; loop = loop_begins free_one (count 16 1) t m 0; few = omega arith; rooms = r; size = z }
 
 module _ {t : Table} {m₀ : Mem} {id : ℕ} {u : Table} {m : Mem} {s : ℕ} where
-  -- slot id begins
-  pub clearing_begins : Freeing t m₀ id u m s → id ≤ 16 → Clearing id (slot_of u id).base u m s 1 u m s
-  clearing_begins g h =
-      record {
-        mask = 0;
-        ending = ending_begins id (slot_of u id).base 1 (count 31 1) u m s (omega arith) (rw g.loop.size (g.rooms id (omega arith) h));
-        later = rw g.loop.size (λ j a b. g.rooms j (omega arith) b);
-      }
+  -- the records of slot id have room
+  pub freeing_rooms : Freeing t m₀ id u m s → id ≤ 16 → RoomsIn (records_of u id) (slot_of u id).base 1 (length m)
+  freeing_rooms g h =
+      rw g.loop.size (records_rooms u id (slot_of u id).base 1 (length m₀) g.size (g.low, h) (omega arith) (g.rooms id (omega arith) h))
 
   -- slot id is freed
-  pub freeing_goes : Freeing t m₀ id u m s → id ≤ 16 → {i : ℕ} {v : Table} {m' : Mem} {s' : ℕ} → Clearing id (slot_of u id).base u m s i v m' s' → 32 ≤ i
-      → Freeing t m₀ (id + 1) (with_slot v id free) m' s'
-  unfolding freeing terminate_all
-  freeing_goes g h {i} {v} c e =
+  pub freeing_goes : Freeing t m₀ id u m s → id ≤ 16 → {r : Marks} {es : List Endpoint} {m' : Mem}
+      → EndsFlagged (slot_of u id).base 1 (2 ^ 32 - 1) (records_of u id) m r es m' → length m' ≡ length m → length es ≡ length (records_of u id)
+      → Freeing t m₀ (id + 1) (with_slot (with_records u id es) id free) m' (s + r.stored)
+  unfolding freeing with_slot
+  freeing_goes g h {r} {es} d n same =
+      let k : IsSlot id = (g.low, h) in
+      let z : length es ≡ 31 = same ∙ records_length u id g.size k in
+      let v = with_records u id es in
+      let gone = ended_from u id (slot_of u id).base 1 k (omega arith) g.size d in
       record {
         low = omega (arith, g.low);
         high = omega arith;
+        size = records_size u id g.size k es z;
         loop =
             loop_goes free_one g.loop (count_first 17 id (omega arith))
             (ends_value (λ w. w.table) (ends_value (λ w. record { table = with_slot w.table id free; launched = w.launched; terminated = w.terminated; port = w.port })
-            (loop_ends (terminate id (slot_of u id).base) c.ending.loop (count_none (32 - i) i (omega arith)))))
-            c.ending.loop.size;
-        few = omega (arith, g.few, c.ending.few, c.ending.high);
+            (ends_from gone.ends s)))
+            n;
+        few = omega (arith, g.few, gone.few);
         rooms =
-            λ j a b k p q.
-            rw (endpoint_slot v id free j k, slot_other v id free j g.low (omega arith) (λ e. omega arith), ← g.loop.size) (c.later j a b k p q);
+            λ j a b i p q.
+            rw (
+              endpoint_slot v id free j i,
+              slot_other v id free j g.low (omega arith) (λ e. omega arith),
+              records_elsewhere u id g.size k es z j i (omega arith) (λ e. omega arith) (p, q),
+              records_slot u id es j,
+            )
+            (g.rooms j (omega arith) b i p q);
       }
 
 -- none is left

@@ -6,7 +6,7 @@ use mathlib.Core.List.{List}
 use Prim.Native.Nat.{ℕ, ◌+◌, ◌-◌, ◌*◌, ◌^◌, ◌≤◌, ◌<◌}
 use native.Mathlib.Nat.{one-mul}
 use native.Mathlib.Omega.{arith}
-use lib.ListN.{length}
+use lib.ListN.{length, length-set, set}
 use lib.Pow.{pow_mono}
 use Rattle.guest.specs.Bytes.{number, ◌⊕◌, bit, set_bits}
 use Rattle.guest.specs.Prog.{Mem, block, splice, run, done, Ends, bind}
@@ -14,14 +14,14 @@ use Rattle.guest.proofs.LoopLaws.{Loop, loop_begins, loop_goes, loop_skips, loop
 use Rattle.guest.proofs.SpliceLaws.{block_length}
 use Rattle.definition.specs.declared.Endpoint.{Endpoint}
 use Rattle.definition.specs.declared.Table.{Table}
-use Rattle.definition.specs.Table.{with_endpoint}
 use Rattle.definition.specs.Steps.{launch_at}
 use Rattle.definition.specs.Walks.{Walk, begun, launch, copy_launch}
 use Rattle.definition.specs.Commands.{add, add_all}
+use Rattle.definition.proofs.TableLaws.{IsSlot}
 use Rattle.endpoint.specs.Promises.{Launches}
-use Rattle.walks.specs.declared.Added.{Added}
 use Rattle.walks.specs.declared.Launched.{Launched}
-use Rattle.walks.specs.Promises.{walk, copy_launch_at, CopyLaunches, AddsAll}
+use Rattle.walks.specs.Promises.{walk, with_records, copy_launch_at, CopyLaunches, AddsAll}
+use Rattle.walks.proofs.RecordLaws.{records_of, records_length, records_back, records_write}
 use Rattle.walks.proofs.WalkLaws.{ends_then, mask_next}
 use Rattle.guest.proofs.BitLaws.{flag_set, flag_clear, flags_done}
 
@@ -57,52 +57,60 @@ copy_launch_one id base c i w d s =
 
 -- ---- adds on their way
 
--- the flags from i on are left, whatever was terminated before
-pub record Adding (id P base adds : ℕ) (t : Table) (m₀ : Mem) (i : ℕ) (u : Table) (mask port : ℕ) (m : Mem) (s : ℕ) : Type 0 where
+-- of the lent records of slot id the flags from i on are left, whatever was terminated before
+pub record Adding (id P base adds : ℕ) (t : Table) (m₀ : Mem) (i : ℕ) (es : List Endpoint) (mask port : ℕ) (m : Mem) (s : ℕ) : Type 0 where
   pub low : 2 ≤ i
   pub high : i ≤ 32
-  pub size : length m ≡ length m₀
-  pub loop : (x : ℕ) → Loop (add id P base) (set_bits 30 2 adds) (walk t 0 x 0) m₀ 0 (set_bits (32 - i) i adds) (walk u mask x port) m s
+  pub memory : length m ≡ length m₀
+  pub size : length es ≡ 31
+  pub loop : (x : ℕ) → Loop (add id P base) (set_bits 30 2 adds) (walk t 0 x 0) m₀ 0 (set_bits (32 - i) i adds) (walk (with_records t id es) mask x port) m s
   pub fits : mask < 2 ^ i
   pub byte : port < 256
   pub few : s + 66 ≤ 33 * i
 
-pub adding_begins : (id P base adds : ℕ) (t : Table) (m : Mem) → Adding id P base adds t m 2 t 0 0 m 0
-adding_begins id P base adds t m =
+pub adding_begins : (id P base adds : ℕ) (t : Table) (m : Mem) → length t.endpoints ≡ 496 → IsSlot id → Adding id P base adds t m 2 (records_of t id) 0 0 m 0
+adding_begins id P base adds t m z n =
     record {
       low = omega arith;
       high = omega arith;
-      size = refl;
-      loop = λ x. loop_begins (add id P base) (set_bits 30 2 adds) (walk t 0 x 0) m 0;
+      memory = refl;
+      size = records_length t id z n;
+      loop = λ x. rw (records_back t id z n) (loop_begins (add id P base) (set_bits 30 2 adds) (walk t 0 x 0) m 0);
       fits = omega arith;
       byte = omega arith;
       few = omega arith;
     }
 
-module _ {id P base adds : ℕ} {t : Table} {m₀ : Mem} {i : ℕ} {u : Table} {mask port : ℕ} {m : Mem} {s : ℕ} where
+module _ {id P base adds : ℕ} {t : Table} {m₀ : Mem} {i : ℕ} {es : List Endpoint} {mask port : ℕ} {m : Mem} {s : ℕ} where
   -- endpoint i is added
-  pub adding_goes : Adding id P base adds t m₀ i u mask port m s → i < 32 → bit adds i ≡ true → {r : Launched} {m' : Mem}
+  pub adding_goes : Adding id P base adds t m₀ i es mask port m s → length t.endpoints ≡ 496 → IsSlot id → i < 32 → bit adds i ≡ true → {r : Launched} {m' : Mem}
       → CopyLaunches base (P ⊕ 32 * (i + 1)) i m r m' → length m' ≡ length m
-      → Adding id P base adds t m₀ (i + 1) (with_endpoint u id i r.endpoint) (mask + 1 * 2 ^ i) r.port m' (s + 33)
+      → Adding id P base adds t m₀ (i + 1) (set es (i - 1) r.endpoint) (mask + 2 ^ i) r.port m' (s + 33)
   unfolding add
-  adding_goes g l on {r} d n =
+  adding_goes g z k l on {r} d n =
       record {
         low = omega (arith, g.low);
         high = omega arith;
-        size = n ∙ g.size;
-        loop = λ x. rw one-mul (loop_goes (add id P base) (g.loop x) (flag_set 32 i adds l on) (copy_launch_one id base (P ⊕ 32 * (i + 1)) i (walk u mask x port) d s) n);
-        fits = mask_next i mask 1 g.fits (omega arith);
+        memory = n ∙ g.memory;
+        size = length-set es (i - 1) r.endpoint ∙ g.size;
+        loop =
+            λ x.
+            rw (← records_write t id z k es g.size i r.endpoint (omega (arith, g.low), omega arith))
+            (loop_goes (add id P base) (g.loop x) (flag_set 32 i adds l on)
+            (copy_launch_one id base (P ⊕ 32 * (i + 1)) i (walk (with_records t id es) mask x port) d s) n);
+        fits = rw one-mul at (mask_next i mask 1 g.fits (omega arith));
         byte = d.byte;
         few = omega (arith, g.few);
       }
 
   -- it is passed by
-  pub adding_skips : Adding id P base adds t m₀ i u mask port m s → i < 32 → bit adds i ≡ false → Adding id P base adds t m₀ (i + 1) u mask port m s
+  pub adding_skips : Adding id P base adds t m₀ i es mask port m s → i < 32 → bit adds i ≡ false → Adding id P base adds t m₀ (i + 1) es mask port m s
   adding_skips g l off =
       let p : 2 ^ i ≤ 2 ^ (i + 1) = pow_mono {i = i} {j = i + 1} (omega arith) in
       record {
         low = omega (arith, g.low);
         high = omega arith;
+        memory = g.memory;
         size = g.size;
         loop = λ x. loop_skips (add id P base) (g.loop x) (flag_clear 32 i adds l off);
         fits = omega (arith, g.fits);
@@ -110,15 +118,15 @@ module _ {id P base adds : ℕ} {t : Table} {m₀ : Mem} {i : ℕ} {u : Table} {
         few = omega (arith, g.few);
       }
 
--- none is left
-pub adding_ends : {id P base adds : ℕ} {t : Table} {m₀ : Mem} {i : ℕ} {r : Added} {m : Mem}
-    → Adding id P base adds t m₀ i r.table r.launched r.port m r.stored → 32 ≤ i → AddsAll id P base (set_bits 30 2 adds) t m₀ r m
-unfolding add_all
-adding_ends {id} {P} {base} {adds} {i = i} g e =
-    let p : 2 ^ i ≤ 2 ^ 32 = pow_mono {i = i} {j = 32} g.high in
-    record {
-      ends = λ x. loop_ends (add id P base) (g.loop x) (flags_done 32 i adds e);
-      few = omega (arith, g.few, g.high);
-      fits = omega (arith, g.fits);
-      byte = g.byte;
-    }
+  -- none is left
+  pub adding_ends : Adding id P base adds t m₀ i es mask port m s → 32 ≤ i
+      → AddsAll id P base (set_bits 30 2 adds) t m₀ (record { table = with_records t id es; launched = mask; port = port; stored = s }) m
+  unfolding add_all
+  adding_ends g e =
+      let p : 2 ^ i ≤ 2 ^ 32 = pow_mono {i = i} {j = 32} g.high in
+      record {
+        ends = λ x. loop_ends (add id P base) (g.loop x) (flags_done 32 i adds e);
+        few = omega (arith, g.few, g.high);
+        fits = omega (arith, g.fits);
+        byte = g.byte;
+      }

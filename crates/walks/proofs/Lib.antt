@@ -1,3 +1,4 @@
+pub mod RecordLaws
 pub mod WalkLaws
 pub mod LaunchLaws
 pub mod FreeLaws

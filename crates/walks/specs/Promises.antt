@@ -1,14 +1,16 @@
 -- What this crate's functions ask of their callers, and what they promise.
 -- Assumes nothing.
-use Rattle.std.specs.Prelude.{◌≡◌, true, false, List, ℕ, ◌+◌, ◌*◌, ◌^◌, ◌≤◌, ◌<◌}
-use Rattle.guest.specs.Bytes.{number, ◌⊕◌, count, bit}
+use Rattle.std.specs.Prelude.{◌≡◌, true, false, List, ℕ, ◌+◌, ◌-◌, ◌*◌, ◌^◌, ◌≤◌, ◌<◌, length, get_or, take, drop, ◌++◌}
+use Rattle.guest.specs.Bytes.{number, ◌⊕◌, count, bit, set_bits}
 use Rattle.guest.specs.Prog.{Mem, Prog, done, get, put, bind, each, Ends}
+use Rattle.definition.specs.declared.Endpoint.{Endpoint}
 use Rattle.definition.specs.declared.Table.{Table}
-use Rattle.definition.specs.Table.{is_disabled, endpoint_of, slot_of}
+use Rattle.definition.specs.Table.{is_disabled, disabled, endpoint_of, slot_of}
 use Rattle.definition.specs.Steps.{launch_at}
 use Rattle.definition.specs.Walks.{Walk, begin, terminate_all}
 use Rattle.definition.specs.Commands.{add_all, freeing}
 use Rattle.walks.specs.declared.Ended.{Ended}
+use Rattle.walks.specs.declared.Marks.{Marks}
 use Rattle.walks.specs.declared.Launched.{Launched}
 use Rattle.walks.specs.declared.Added.{Added}
 use Rattle.walks.specs.declared.Freed.{Freed}
@@ -28,6 +30,33 @@ pub record TerminatesAll (id base : ℕ) (is : List ℕ) (n : ℕ) (t : Table) (
   pub ends : Ends (terminate_all id base is (begin t)) m 0 (walk r.table 0 r.terminated 0) m' r.stored
   pub few : r.stored ≤ n
   pub fits : r.terminated < 2 ^ 32
+
+-- the record of endpoint i among a slot's 31
+abbrev pub record_of : List Endpoint → ℕ → Endpoint
+record_of es i = get_or es (i - 1) disabled
+
+-- t, with these 31 records in the place of slot id's
+unfoldable pub with_records : Table → ℕ → List Endpoint → Table
+with_records t id es =
+    let first = (id - 1) * 31 in
+    record {
+      limit = t.limit;
+      length = t.length;
+      dcbaap = t.dcbaap;
+      slots = t.slots;
+      endpoints = take first t.endpoints ++ (es ++ drop 31 (drop first t.endpoints));
+    }
+
+-- each enabled one of these records, from lo on, has its context in a memory of len bytes
+abbrev pub RoomsIn : List Endpoint → ℕ → ℕ → ℕ → Type 0
+RoomsIn es base lo len = (i : ℕ) → lo ≤ i → i ≤ 31 → is_disabled (record_of es i) ≡ false → (base ⊕ 32 * i) + 32 ≤ len
+
+-- of these records those from lo on whose flag is set were terminated, in order, whichever slot's they are
+pub record EndsFlagged (base lo flags : ℕ) (es : List Endpoint) (m : Mem) (r : Marks) (es' : List Endpoint) (m' : Mem) : Type 0 where
+  pub ends : (t : Table) (id : ℕ) → 1 ≤ id → id ≤ 16 → length t.endpoints ≡ 496
+      → Ends (terminate_all id base (set_bits (32 - lo) lo flags) (begin (with_records t id es))) m 0 (walk (with_records t id es') 0 r.mask 0) m' r.stored
+  pub few : r.stored ≤ 32 - lo
+  pub fits : r.mask < 2 ^ 32
 
 -- ---- launches
 

@@ -24,12 +24,12 @@ bounds-t-k c = let on = opened_slot c.requires in
 pub attempt-requires : goal.attempt-requires
 attempt-requires c = default_fits c.requires refl
 
-pub returns-in-Refused : goal.returns-in-Refused
-returns-in-Refused c = rw c.refused.ensures (device_answers c.requires refl _ _ c.attempt.result c.attempt.ensures c.in-Refused.is)
+pub returns-in-Err : goal.returns-in-Err
+returns-in-Err c = rw c.refuse.ensures (device_answers c.requires refl _ _ c.attempt.result c.attempt.ensures c.in-Err.is)
 
 pub applied-requires : goal.applied-requires
 applied-requires c = let on = opened_slot c.requires in
     (on.low, on.high)
 
-pub returns : goal.returns
-returns c = rw c.applied.ensures (device_answers c.requires refl _ _ c.attempt.result c.attempt.ensures c.in-Done.is)
+pub returns-in-Ok : goal.returns-in-Ok
+returns-in-Ok c = rw c.applied.ensures (device_answers c.requires refl _ _ c.attempt.result c.attempt.ensures c.in-Ok.is)

@@ -7,8 +7,8 @@ returns-in_default c = let a = c.args in
     rw c.refused.ensures (ready_refused (reaches a.slotless a.absent a.id a.i a.input) c.requires c.lookup.ensures c.in_default.is)
 
 pub reach-requires : goal.reach-requires
-reach-requires c = reach_ready (ready_opens c.requires c.lookup.ensures c.in-Used.is)
+reach-requires c = reach_ready (ready_opens c.requires c.lookup.ensures c.in-Some.is)
 
 pub returns : goal.returns
 returns c = let a = c.args in
-    reached a.slotless a.absent a.i a.input (ready_opens c.requires c.lookup.ensures c.in-Used.is) c.reach.ensures
+    reached a.slotless a.absent a.i a.input (ready_opens c.requires c.lookup.ensures c.in-Some.is) c.reach.ensures

@@ -5,4 +5,4 @@ use Rattle.formed.proofs.reset_device.Goals as goal
 
 pub returns-in_default : goal.returns-in_default
 unfolding prog
-returns-in_default c = rw c.refused.ensures (ready_refused (resets _) c.requires c.lookup.ensures c.in_default.is)
+returns-in_default c = rw c.refuse.ensures (ready_refused (resets _) c.requires c.lookup.ensures c.in_default.is)

@@ -6,16 +6,13 @@ use Rattle.definition.specs.Table.{fresh_table}
 use Rattle.definition.specs.Calls.{made}
 use Rattle.definition.proofs.FormedCalls.{made_proper}
 use Rattle.formed.specs.Promises.{Ready}
-use lib.ListN.{length, replicate, length-replicate}
+use lib.ListN.{replicate, length-replicate}
 use Rattle.player.proofs.replay.Goals as goal
-
-zeros : (n : ℕ) → n ≡ length (replicate {A = ℕ} n 0)
-zeros n = sym (length-replicate {A = ℕ} n 0)
 
 -- a fresh table, and its memory
 fresh : {r : Outcome} → r ≡ made 65536 → Ready r.table (replicate {A = ℕ} 65536 0)
 unfolding fresh_table
-fresh e = rw e (record { formed = (made_proper 65536).formed; size = zeros 65536 })
+fresh e = rw e (record { formed = (made_proper 65536).formed; size = sym (length-replicate {A = ℕ} 65536 0) })
 
-pub loop-turns-init : goal.loop-turns-init
-loop-turns-init g c = (fresh c.make_table-made.ensures, zeros 65536, zeros 65536, zeros 16384, zeros 65536)
+pub loop-init : goal.loop-init
+loop-init g c = fresh c.make_table.ensures

@@ -10,4 +10,4 @@ free_all-freed-requires c = λ id low high i one top on. omega (arith, c.require
 
 pub returns : goal.returns
 unfolding with_registers
-returns c = all_reset c.args.t c.requires.0 c.requires.1 c.free_all-freed.ensures
+returns c = rw c.answer.ensures (all_reset c.args.t c.requires.0 c.requires.1 c.free_all-freed.ensures)

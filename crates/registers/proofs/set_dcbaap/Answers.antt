@@ -5,4 +5,4 @@ use Rattle.registers.proofs.set_dcbaap.Goals as goal
 
 pub returns : goal.returns
 unfolding with_registers
-returns c = rw c.plain.ensures (dcbaap_set c.args.t c.requires c.args.dcbaap)
+returns c = rw c.answer.ensures (dcbaap_set c.args.t c.requires c.args.dcbaap)

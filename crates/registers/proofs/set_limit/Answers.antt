@@ -5,8 +5,8 @@ use Rattle.registers.proofs.RegisterLaws.{limit_set, limit_refused}
 use Rattle.registers.proofs.set_limit.Goals as goal
 
 pub returns-then-limit-gt16 : goal.returns-then-limit-gt16
-returns-then-limit-gt16 c = rw c.refused.ensures (limit_refused c.args.t c.requires c.args.limit (omega arith))
+returns-then-limit-gt16 c = rw c.refuse.ensures (limit_refused c.args.t c.requires c.args.limit (omega arith))
 
 pub returns : goal.returns
 unfolding with_registers
-returns c = rw c.plain.ensures (limit_set c.args.t c.requires c.args.limit (omega arith))
+returns c = rw c.answer.ensures (limit_set c.args.t c.requires c.args.limit (omega arith))

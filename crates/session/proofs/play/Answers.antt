@@ -1,26 +1,31 @@
 -- `session::play` meets its contract. Assumes nothing.
 use native.Mathlib.Omega.{arith}
-use Rattle.session.proofs.StoreLaws.{stores_inside}
+use mathlib.Core.Path.{sym}
+use Rattle.trace.proofs.RecordLaws.{entry_stores}
 use Rattle.session.proofs.SizeLaws.{table_sized}
 use Rattle.session.proofs.SessionLaws.{going_begins, going_ends, going_bad, going_stores, going_calls}
 use Rattle.session.proofs.play.Goals as goal
 
-pub loop-at-init : goal.loop-at-init
-loop-at-init c = going_begins _ _ _ _ (table_sized _ _ c.well_formed.0) c.requires.ready c.requires.records_in_bounds
+pub loop-record-init : goal.loop-record-init
+loop-record-init c =
+    let items = c.chunks-record-items.ensures in
+    going_begins _ _ _ _ c.into_iter-record-iterator.ensures.into_iter_gives items.rest items.size (table_sized _ _ c.well_formed.0) c.requires.ready c.requires.records_in_bounds
 
-pub returns-in-Bad : goal.returns-in-Bad
-returns-in-Bad c = going_bad c.loop-at.invariant c.loop-at-test.true c.next-end.ensures c.decode-entry.ensures c.in-Bad.is
+pub returns-in_default : goal.returns-in_default
+returns-in_default c = going_bad c.loop-record.invariant c.in-Some.record c.next.new.self c.in-Some.ensures.steps c.in_default.ensures
 
 pub store_byte-requires : goal.store_byte-requires
-store_byte-requires c = omega (arith, c.index.ensures, stores_inside _ _ c.decode-entry.ensures c.in-Store.is, c.loop-at.invariant.size)
+store_byte-requires c =
+    let inside = entry_stores _ _ (sym (rw c.in-Store.is at c.in-Ok.ensures)) in
+    omega (arith, c.index.ensures, inside.0, c.loop-record.invariant.size)
 
-pub loop-at-preserved-in-Store : goal.loop-at-preserved-in-Store
-loop-at-preserved-in-Store c = going_stores c.loop-at.invariant c.loop-at-test.true c.next-end.ensures c.decode-entry.ensures c.in-Store.is
-    c.index.ensures c.store_byte.ensures
+pub loop-record-preserved-in-Store : goal.loop-record-preserved-in-Store
+loop-record-preserved-in-Store c =
+    going_stores c.loop-record.invariant c.in-Some.record c.next.new.self c.in-Some.ensures.steps (rw c.in-Store.is at c.in-Ok.ensures) c.index.ensures c.store_byte.ensures
 
-pub loop-at-preserved : goal.loop-at-preserved
-loop-at-preserved c = going_calls c.loop-at.invariant c.loop-at-test.true c.next-end.ensures c.decode-entry.ensures c.in-Call.is
-    c.apply-r.ensures c.apply-r.auto.mem c.put.ensures
+pub loop-record-preserved : goal.loop-record-preserved
+loop-record-preserved c =
+    going_calls c.loop-record.invariant c.in-Some.record c.next.new.self c.in-Some.ensures.steps (rw c.in-Call.is at c.in-Ok.ensures) c.apply-outcome.ensures c.apply-outcome.auto.mem c.put.ensures
 
 pub returns : goal.returns
-returns c = going_ends c.loop-at.invariant c.loop-at-test.false
+returns c = going_ends c.loop-record.invariant c.in-None.ensures.steps.1.0

@@ -1,7 +1,7 @@
 -- `session::put` meets its contract. Assumes nothing.
-use native.Mathlib.Omega.{arith}
-use Rattle.guest.proofs.LentLaws.{lent}
+use mathlib.Core.Path.{◌∙◌}
+use Rattle.session.proofs.RecordLaws.{put_numbers}
 use Rattle.session.proofs.put.Goals as goal
 
 pub returns : goal.returns
-returns c = let a = c.args in lent a.answers.now _ _ _ (omega arith) c.put_eight.ensures
+returns c = put_numbers _ _ _ c.requires (c.copy_from_slice.ensures.after ∙ c.numbers.ensures)

@@ -3,13 +3,13 @@ use Rattle.definition.specs.Calls.{prog}
 use Rattle.formed.proofs.CallLaws.{disables, head_refused, absent_refused, head_opens}
 use Rattle.slot_manager.proofs.disable_slot.Goals as goal
 
-pub returns-then-head-ne0 : goal.returns-then-head-ne0
+pub returns-in-Err : goal.returns-in-Err
 unfolding prog
-returns-then-head-ne0 c = rw c.refused.ensures (head_refused (disables _) 0 c.opens-head.ensures c.if-head-ne0.true)
+returns-in-Err c = rw c.refuse.ensures (head_refused (disables _) 0 c.opens.ensures c.in-Err.is)
 
 pub returns-in_default : goal.returns-in_default
 unfolding prog
-returns-in_default c = rw c.refused-in_default.ensures (absent_refused (disables _) 0 c.opens-head.ensures c.if-head-ne0.false c.in_default.is)
+returns-in_default c = rw c.refuse-in_default.ensures (absent_refused (disables _) 0 c.opens.ensures c.in-Ok.is c.in_default.is)
 
 pub disable_slot-requires : goal.disable_slot-requires
-disable_slot-requires c = head_opens 0 c.opens-head.ensures c.if-head-ne0.false c.in-Used.is
+disable_slot-requires c = head_opens 0 c.opens.ensures c.in-Ok.is c.in-Some.is

@@ -1,31 +1,20 @@
 -- `walks::terminate_flagged` meets its contract. Assumes nothing.
-use mathlib.Core.Path.{sym, ◌∙◌}
 use native.Mathlib.Omega.{arith}
-use Rattle.definition.specs.Table.{endpoint_of, with_endpoint}
-use Rattle.walks.proofs.WalkLaws.{ending_goes, ending_skips, ending_ends}
-use Rattle.guest.proofs.BitLaws.{flag_set, flag_clear, flags_done}
+use Rattle.walks.specs.Promises.{with_records}
+use Rattle.walks.proofs.RecordLaws.{lent_length, records_rooms}
+use Rattle.walks.proofs.WalkLaws.{ended_flagged}
 use Rattle.walks.proofs.terminate_flagged.Goals as goal
-use Rattle.walks.proofs.terminate_flagged.Goals.{then-flag, else-flag}
 
-pub loop-i-preserved : goal.loop-i-preserved
-unfolding endpoint_of with_endpoint
-loop-i-preserved c =
-    let l = c.loop-i in
-    let drops = c.args.drops in
-    elim c.if-flag.branch [
-      | then-flag w ↦
-          rw (w.mem-is, w.u-is, w.terminated-is, w.stored-is, w.marked-terminated.ensures)
-          (ending_goes l.invariant (omega arith) (omega arith) (flag_set 32 l.i drops (omega arith) (sym c.flag.ensures ∙ w.if-flag.true)) w.end_one-r.ensures w.end_one-r.auto.mem)
-      | else-flag w ↦
-          rw (w.mem-is, w.u-is, w.terminated-is, w.stored-is)
-          (ending_skips l.invariant (omega arith) (flag_clear 32 l.i drops (omega arith) (sym c.flag.ensures ∙ w.if-flag.false)))
-    ]
+pub end_flagged-gone-requires-clause-rooms : goal.end_flagged-gone-requires-clause-rooms
+end_flagged-gone-requires-clause-rooms c =
+    let at = c.records_of.ensures in
+    rw (at.start, at.end, lent_length c.args.id)
+    (records_rooms c.args.t c.args.id c.args.base _ _ (omega arith) (omega arith, omega arith) (omega arith) c.requires.rooms)
 
 pub returns : goal.returns
-returns c = ending_ends c.loop-i.invariant (flags_done 32 _ _ (omega arith))
-
-pub end_one-r-requires-clause-i_in_bounds : goal.end_one-r-requires-clause-i_in_bounds
-unfolding endpoint_of
-end_one-r-requires-clause-i_in_bounds c =
-    let l = c.loop-i in
-    λ d. rw l.invariant.loop.size (l.invariant.rooms l.i (omega arith) (omega arith) d)
+unfolding with_records
+returns c =
+    let at = c.records_of.ensures in
+    let n = lent_length c.args.id in
+    rw (at.start, at.end, n)
+    (ended_flagged c.args.t c.args.id c.args.base 2 c.args.drops (omega arith, omega arith) (omega arith) (rw (at.start, at.end, n) at c.end_flagged-gone.ensures))

@@ -7,25 +7,25 @@ use Rattle.commands.proofs.configure.configure_endpoint.Goals as goal
 pub plan_of-requires : goal.plan_of-requires
 plan_of-requires c = λ h. (settled_based c.requires h).room
 
-pub returns-in-Refused : goal.returns-in-Refused
-returns-in-Refused c = rw c.refused.ensures (configure_refused c.requires c.args.pointer _ _ c.plan_of.ensures c.in-Refused.is)
+pub returns-in-Err : goal.returns-in-Err
+returns-in-Err c = rw c.refuse.ensures (configure_refused c.requires c.args.pointer _ _ c.plan_of.ensures c.in-Err.is)
 
 pub returns : goal.returns
-returns c = configured c.requires c.args.pointer _ _ c.plan_of.ensures c.in-Walk.is
-    (walk_carried c.terminate_flagged-w.ensures c.args.slot _ c.add_flagged-v.ensures c.finish.ensures)
+returns c = configured c.requires c.args.pointer _ _ c.plan_of.ensures c.in-Ok.is
+    (walk_carried c.terminate_flagged-ended.ensures c.args.slot _ c.add_flagged-added.ensures c.finish.ensures)
 
-pub terminate_flagged-w-requires : goal.terminate_flagged-w-requires
-terminate_flagged-w-requires c = let on = opened_slot c.requires in
+pub terminate_flagged-ended-requires : goal.terminate_flagged-ended-requires
+terminate_flagged-ended-requires c = let on = opened_slot c.requires in
     record { le_id = (on.low, on.high); rooms = opened_rooms c.requires 2 (omega arith) }
 
-pub add_flagged-v-requires : goal.add_flagged-v-requires
-add_flagged-v-requires c = let on = opened_slot c.requires in
-    record { le_id = (on.low, on.high); spaces = spaces_kept c.terminate_flagged-w.ensures c.args.pointer _ (planned c.requires c.args.pointer _ _ c.plan_of.ensures c.in-Walk.is).spaces }
+pub add_flagged-added-requires : goal.add_flagged-added-requires
+add_flagged-added-requires c = let on = opened_slot c.requires in
+    record { le_id = (on.low, on.high); spaces = spaces_kept c.terminate_flagged-ended.ensures c.args.pointer _ (planned c.requires c.args.pointer _ _ c.plan_of.ensures c.in-Ok.is).spaces }
 
 pub finish-requires : goal.finish-requires
 finish-requires c = let on = opened_slot c.requires in
-    let room = (planned c.requires c.args.pointer _ _ c.plan_of.ensures c.in-Walk.is).room in
+    let room = (planned c.requires c.args.pointer _ _ c.plan_of.ensures c.in-Ok.is).room in
     record {
-      based = record { low = on.low; high = on.high; room = omega (arith, c.add_flagged-v.auto.mem, c.terminate_flagged-w.auto.mem, room) };
-      stored_bound = omega (arith, c.terminate_flagged-w.ensures.few, c.add_flagged-v.ensures.few);
+      based = record { low = on.low; high = on.high; room = omega (arith, c.add_flagged-added.auto.mem, c.terminate_flagged-ended.auto.mem, room) };
+      stored_bound = omega (arith, c.terminate_flagged-ended.ensures.few, c.add_flagged-added.ensures.few);
     }

@@ -4,4 +4,4 @@ use Rattle.commands.proofs.device.deconfigure.Goals as goal
 
 pub returns : goal.returns
 returns c = let a = c.args in
-    deconfigured a.id a.slot a.next a.t c.terminate_from-w.ensures c.finish.ensures
+    deconfigured a.id a.slot a.next a.t c.terminate_from-ended.ensures c.finish.ensures

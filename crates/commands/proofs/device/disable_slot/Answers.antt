@@ -10,19 +10,19 @@ use Rattle.commands.proofs.device.disable_slot.Goals as goal
 pub overflow_sub-j : goal.overflow_sub-j
 overflow_sub-j c = let f = opened_slot c.requires in search rules
 
-pub offset_bounds-u-j : goal.offset_bounds-u-j
-offset_bounds-u-j c = let f = opened_slot c.requires in search rules
+pub offset_bounds-ended-j : goal.offset_bounds-ended-j
+offset_bounds-ended-j c = let f = opened_slot c.requires in search rules
 
-pub bounds-u-j : goal.bounds-u-j
-bounds-u-j c = let f = opened_slot c.requires in search rules
+pub bounds-ended-j : goal.bounds-ended-j
+bounds-ended-j c = let f = opened_slot c.requires in search rules
 
 pub returns : goal.returns
 unfolding with_slot prog meaning commands.disable_slot
 returns c = let a = c.args in
     rw c.success.ensures
-    (opened_settles 11 a.t a.id _ c.requires (carried a.t (disabled_slot a.t a.id a.slot (opened_slot c.requires).slot c.terminate_from-w.ensures)))
+    (opened_settles 11 a.t a.id _ c.requires (carried a.t (disabled_slot a.t a.id a.slot (opened_slot c.requires).slot c.terminate_from-ended.ensures)))
 
-pub terminate_from-w-requires : goal.terminate_from-w-requires
-terminate_from-w-requires c = let o = c.requires in
+pub terminate_from-ended-requires : goal.terminate_from-ended-requires
+terminate_from-ended-requires c = let o = c.requires in
     let f = opened_slot o in
     record { le_id = (f.low, f.high, omega arith, omega arith); rooms = opened_rooms o 1 (omega arith) }

@@ -11,7 +11,7 @@ pub returns-then-not-settled : goal.returns-then-not-settled
 unfolding prog meaning commands.reset_device
 returns-then-not-settled c = let a = c.args in
     let no = sym c.is_settled-settled.ensures ∙ c.if-not-settled.true in
-    rw c.refused.ensures (opened_settles 11 a.t a.id _ c.requires (refuses_at_once a.t a.mem.now (settled_no a.slot.state _ no)))
+    rw c.refuse.ensures (opened_settles 11 a.t a.id _ c.requires (refuses_at_once a.t a.mem.now (settled_no a.slot.state _ no)))
 
 pub returns : goal.returns
 unfolding prog meaning commands.reset_device

@@ -1,31 +1,46 @@
 -- `commands::reach::reach` meets its contract. Assumes nothing.
-use native.Mathlib.Omega.{arith}
+use mathlib.Core.Path.{◌≡◌}
+use mathlib.Core.Bool.{false, ◌&&◌}
+use Prim.Native.Nat.{◌≤◌}
+use borrow.Author.Rules.{rules}
+use lib.Dec.{leb}
 use Rattle.definition.specs.Table.{endpoint_of}
-use Rattle.commands.proofs.ReachLaws.{own_record, settle_ready, reach_zero, reach_high, reach_refuses, reach_applies}
+use Rattle.commands.proofs.ReachLaws.{own_record, settle_ready, reach_outside, reach_absent, reach_refuses, reach_applies}
 use Rattle.commands.proofs.reach.reach.Goals as goal
 
-pub returns-then-i-eq0 : goal.returns-then-i-eq0
-returns-then-i-eq0 c = let a = c.args in
-    rw c.refused.ensures (reach_zero a.absent a.t a.id a.i a.input a.slot a.mem.now c.if-i-eq0.true)
+pub returns-then-not-contains : goal.returns-then-not-contains
+returns-then-not-contains c = let a = c.args in
+    let out : (leb 1 a.i && leb a.i 31) ≡ false = search rules in
+    rw c.refused.ensures (reach_outside a.absent a.t a.id a.i a.input a.slot a.mem.now out)
 
-pub returns-then-i-gt31 : goal.returns-then-i-gt31
-returns-then-i-gt31 c = let a = c.args in
-    rw c.refused-then-i-gt31.ensures (reach_high a.absent a.t a.id a.i a.input a.slot a.mem.now c.if-i-gt31.true)
-
-pub settle-r-requires : goal.settle-r-requires
+pub settle-requires : goal.settle-requires
 unfolding endpoint_of
-settle-r-requires c = let a = c.args in
+settle-requires c = let a = c.args in
+    let low : 1 ≤ a.i = search rules in
+    let high : a.i ≤ 31 = search rules in
     let q = c.requires in
-    settle_ready a.t a.id a.i a.slot a.mem.now q.2 q.3 q.0 q.1 q.4 (own_record a.t a.id a.i (omega arith) (omega arith))
+    settle_ready a.t a.id a.i a.slot a.mem.now q.2 q.3 q.0 q.1 q.4 (own_record a.t a.id a.i low high)
 
-pub returns-then-r : goal.returns-then-r
+pub returns-in_default : goal.returns-in_default
 unfolding endpoint_of
-returns-then-r c = let a = c.args in
-    rw c.refused-then-r.ensures
-    (reach_refuses c.settle-r.ensures a.id a.t (own_record a.t a.id a.i (omega arith) (omega arith)) c.if-r.true)
+returns-in_default c = let a = c.args in
+    let low : 1 ≤ a.i = search rules in
+    let high : a.i ≤ 31 = search rules in
+    rw c.refused-in_default.ensures
+    (reach_absent c.settle.ensures a.absent a.id a.t (own_record a.t a.id a.i low high) c.in_default.is)
 
-pub returns : goal.returns
+pub returns-in-Err : goal.returns-in-Err
 unfolding endpoint_of
-returns c = let a = c.args in
+returns-in-Err c = let a = c.args in
+    let low : 1 ≤ a.i = search rules in
+    let high : a.i ≤ 31 = search rules in
+    rw c.refuse.ensures
+    (reach_refuses c.settle.ensures a.absent a.id a.t (own_record a.t a.id a.i low high) c.in-Some.is c.in-Err.is)
+
+pub returns-in-Ok : goal.returns-in-Ok
+unfolding endpoint_of
+returns-in-Ok c = let a = c.args in
+    let low : 1 ≤ a.i = search rules in
+    let high : a.i ≤ 31 = search rules in
     rw c.applied.ensures
-    (reach_applies c.settle-r.ensures a.id a.t (own_record a.t a.id a.i (omega arith) (omega arith)) c.if-r.false)
+    (reach_applies c.settle.ensures a.absent a.id a.t (own_record a.t a.id a.i low high) c.in-Some.is c.in-Ok.is)

@@ -5,10 +5,9 @@ use Rattle.commands.proofs.reach.settle.Goals as goal
 
 pub returns-then-is_disabled : goal.returns-then-is_disabled
 returns-then-is_disabled c = let a = c.args in
-    settled_disabled a.slot a.i a.input a.absent (sym c.is_disabled.ensures ∙ c.if-is_disabled.true)
+    settled_disabled a.slot a.i a.input (sym c.is_disabled.ensures ∙ c.if-is_disabled.true)
 
 pub returns : goal.returns
 returns c = let a = c.args in
     let d = sym c.is_disabled.ensures ∙ c.if-is_disabled.false in
-    let k = rw (c.index-at.ensures, c.plus.ensures) at c.step-r.ensures in
-    rw (c.bit-2.ensures, c.bit.ensures) (settled_stepped a.slot a.i a.input a.absent d k)
+    settled_stepped a.slot a.i a.input d c.step.result (rw (c.index-at.ensures, c.plus.ensures) at c.step.ensures)

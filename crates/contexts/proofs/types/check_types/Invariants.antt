@@ -1,10 +1,6 @@
 -- `contexts::types::check_types` meets its contract. Assumes nothing.
-use Prim.Native.Nat.{◌-◌}
 use Rattle.contexts.proofs.CheckLaws.{CheckedTo}
 use Rattle.contexts.proofs.types.check_types.Given as goal
 
 abbrev pub invariant-loop-i : goal.invariant-loop-i
 invariant-loop-i l = CheckedTo l.pointer l.adds l.mem l.i
-
-abbrev pub decreases-loop-i : goal.decreases-loop-i
-decreases-loop-i l = 32 - l.i

@@ -4,4 +4,4 @@ use Rattle.guest.proofs.LentLaws.{lent}
 use Rattle.guest.proofs.context.store_context.Goals as goal
 
 pub returns : goal.returns
-returns c = let a = c.args in lent a.mem.now a.at _ _ (omega arith) c.put_context.ensures
+returns c = let a = c.args in lent a.mem.now a.at _ _ (omega arith) c.store.ensures

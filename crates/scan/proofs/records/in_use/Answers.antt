@@ -1,13 +1,16 @@
 -- `scan::records::in_use` meets its contract. Assumes nothing.
-use mathlib.Core.Path.{sym, ◌∙◌}
-use borrow.Author.Tests.{eq-eqb, ne_eqb}
+use mathlib.Core.Path.{◌≡◌, sym, ◌∙◌}
+use mathlib.Core.Bool.{true, false}
+use Rattle.definition.specs.Table.{is_disabled}
 use Rattle.scan.specs.Records.{in_use}
 use Rattle.scan.proofs.records.in_use.Goals as goal
 
-pub returns-then-endpoint_number-eq0 : goal.returns-then-endpoint_number-eq0
+pub returns-then-not-is_disabled : goal.returns-then-not-is_disabled
 unfolding in_use
-returns-then-endpoint_number-eq0 c = simp (eq-eqb _ _ (sym c.endpoint_number.ensures ∙ c.if-endpoint_number-eq0.true))
+returns-then-not-is_disabled c =
+    let on : is_disabled c.args.first ≡ false = sym c.is_disabled.ensures ∙ c.if-not-is_disabled.true in simp on c.inside.ensures
 
-pub returns : goal.returns
+pub returns-else-not-is_disabled : goal.returns-else-not-is_disabled
 unfolding in_use
-returns c = simp (← c.endpoint_number.ensures, ne_eqb _ _ c.if-endpoint_number-eq0.false) c.inside.ensures
+returns-else-not-is_disabled c =
+    let off : is_disabled c.args.first ≡ true = sym c.is_disabled.ensures ∙ c.if-not-is_disabled.false in simp (c.if-not-is_disabled.false, off)

@@ -1,6 +1,7 @@
 -- `scan::records::nonzero` meets its contract. Assumes nothing.
-use Rattle.scan.proofs.ScanLaws.{clear_record}
+use Rattle.definition.specs.Table.{is_zero}
 use Rattle.scan.proofs.records.nonzero.Goals as goal
 
 pub returns : goal.returns
-returns c = clear_record c.args.e c.endpoint_number.ensures
+unfolding is_zero
+returns c = rw c.number.ensures

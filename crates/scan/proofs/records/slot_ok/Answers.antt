@@ -1,4 +1,5 @@
 -- `scan::records::slot_ok` meets its contract. Assumes nothing.
+use Rattle.std.proofs.Common.{inl, inr}
 use borrow.Author.Tests.{eq-eqb, ne_eqb}
 use Rattle.scan.specs.Records.{own_ok}
 use Rattle.scan.proofs.records.slot_ok.Goals as goal
@@ -17,12 +18,5 @@ returns-in-Enabled c = simp c.in-Enabled.is
 
 pub returns-in-Default : goal.returns-in-Default
 unfolding own_ok
-returns-in-Default c = simp c.in-Default.is c.in_use.ensures
-
-pub returns-in-Addressed : goal.returns-in-Addressed
-unfolding own_ok
-returns-in-Addressed c = simp c.in-Addressed.is c.in_use-in-Addressed.ensures
-
-pub returns-in-Configured : goal.returns-in-Configured
-unfolding own_ok
-returns-in-Configured c = simp c.in-Configured.is c.in_use-in-Configured.ensures
+returns-in-Default c =
+    elim c.in-Default.is [ inl e ↦ simp e c.in_use.ensures | inr q ↦ elim q [ inl e ↦ simp e c.in_use.ensures | inr e ↦ simp e c.in_use.ensures ] ]

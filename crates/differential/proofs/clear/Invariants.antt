@@ -1,9 +1,0 @@
--- `differential::clear`: its loop. Assumes nothing.
-use Prim.Native.Nat.{◌-◌, ◌≤◌}
-use Rattle.differential.proofs.clear.Given as goal
-
-abbrev pub invariant-loop-i : goal.invariant-loop-i
-invariant-loop-i l = l.i ≤ 65536
-
-abbrev pub decreases-loop-i : goal.decreases-loop-i
-decreases-loop-i l = 65536 - l.i

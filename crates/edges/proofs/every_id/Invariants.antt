@@ -1,6 +1,0 @@
--- `edges::every_id` meets its contract. Assumes nothing.
-use Rattle.std.proofs.Common.{◌-◌}
-use Rattle.edges.proofs.every_id.Given as goal
-
-abbrev pub decreases-loop-c : goal.decreases-loop-c
-decreases-loop-c g l = 17 - l.c
