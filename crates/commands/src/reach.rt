@@ -44,8 +44,8 @@ pub fn applied(mut t: Table, id: u64, i: u64, taken: Taken) -> Outcome
     }
 }
 
-// Endpoint i of the slot takes the input. `absent` is the code where it is absent or disabled: 12, or 196 for a host event. (A number, since docs/CLAIMS.md
-// promises it of any.)
+// Endpoint i of the slot takes the input. `absent` is the code where it is absent or disabled: 12, or 196 for a host event. (A number: the contract
+// takes any, and a narrower type would ask more.)
 pub fn reach(
     t: Table,
     mem: &mut [u8],

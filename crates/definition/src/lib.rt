@@ -153,7 +153,7 @@ pub enum Input {
 // An entry of the table of steps that is no refusal.
 #[derive(Clone, Copy)]
 pub struct Row {
-    // The answer: 0 or 1.
+    // The answer: 0 or 1. The answer's codes, and the bytes that memory holds, are the scope's numbers.
     pub code: u8,
     // The state after the step where no TRB is found, if it changes.
     pub next: Option<EndpointState>,

@@ -31,7 +31,7 @@ pub struct Terminated {
     pub stored: u64,
 }
 
-// The endpoint is disabled.
+// The endpoint is disabled. (docs/CLAIMS.md names the function; the method does it.)
 pub fn is_disabled(e: Endpoint) -> bool
     ensures { result ≡ is_disabled e }
 {

@@ -12,7 +12,7 @@ ghost use Rattle.formed.specs.Promises.{Ready};
 
 use definition::{Dequeue, Input, Look, Outcome, Refusal, Table};
 
-// The codes that `reach` is given: numbers, as it takes any (docs/CLAIMS.md).
+// The codes that `reach` is given: numbers, since its contract takes any, and a narrower type would ask more.
 const NO_SLOT: u64 = Refusal::NoSlot as u64;
 
 const NO_ENDPOINT: u64 = Refusal::NoEndpoint as u64;
@@ -70,7 +70,7 @@ pub fn reset_device(t: Table, mem: &mut [u8], id: u64) -> Outcome
 }
 
 // What the calls that reach one endpoint share: endpoint i of slot id takes the input. `slotless` is the code where there is no such slot, `absent` where the
-// endpoint is absent or disabled. (Numbers, since docs/CLAIMS.md promises it of any.)
+// endpoint is absent or disabled. (Numbers: the contract takes any.)
 pub fn reach(
     t: Table,
     mem: &mut [u8],

@@ -29,7 +29,7 @@ pub fn read_byte(mem: &[u8], at: usize) -> u8
     mem[at]
 }
 
-// The number in the 4 bytes at an index.
+// The number in the 4 bytes at an index. (One function for each width: std has no trait of `from_le_bytes`.)
 pub fn read_u32(mem: &[u8], at: usize) -> u32
     requires { at + 4 ≤ length mem.now }
     ensures { result ≡ number (block mem.now at 4) }

@@ -1,5 +1,5 @@
-// Making a table, the slot limit and DCBAAP, Enable Slot (xHCI 4.6.3) and reset of all slots, each on a well formed table.
-// Only reset of all slots is lent memory: what the others promise holds over any.
+// Making a table, the slot limit and DCBAAP, Enable Slot (xHCI 4.6.3) and reset of all slots, each on a well formed table
+// (asked in a clause: docs/CLAIMS.md names them so). Only reset of all slots is lent memory: what the others promise holds over any.
 #![tactic(auto)]
 
 ghost use Rattle.std.specs.Prelude.{◌≡◌, true, ◌≤◌, length, IfSome};

@@ -13,8 +13,7 @@ ghost use Rattle.scan.specs.Heads as heads;
 use definition::{Answer, Endpoint, Outcome, Refusal, Slot, Table};
 use records::Faults;
 
-// How a call begins that is not refused: what the look for its slot found, and the record of its endpoint. Two fields, no plainer as one nested Option: of
-// a slot that is found and has no endpoint i the record is a disabled endpoint's, so that each field means something without the other.
+// How a call begins that is not refused: what the look for its slot found, and the record of its endpoint, a disabled endpoint's where there is none.
 #[derive(Clone, Copy)]
 pub struct Head {
     pub found: Option<Slot>,
@@ -159,7 +158,7 @@ pub fn answer(code: u64) -> Answer
     }
 }
 
-// A refusal by its code: the table as it was, and all but the code is 0. (A number, since docs/CLAIMS.md promises it of any.)
+// A refusal by its code: the table as it was, and all but the code is 0. (A number: the contract takes any.)
 pub fn refused(t: Table, code: u64) -> Outcome
     ensures { result ≡ heads.refusal t code }
 {

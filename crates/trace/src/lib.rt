@@ -55,7 +55,7 @@ pub struct Reach {
     pub asked: Asked,
 }
 
-// What it is asked: a command, a doorbell or a host event.
+// What it is asked: a command, a doorbell or a host event. (An endpoint's `Input` but for Terminate, which no record can ask.)
 #[derive(Clone, Copy)]
 pub enum Asked {
     Stop,
