@@ -15,11 +15,13 @@ pub fn disable_slot(t: Table, mem: &mut [u8], id: u64, slot: Slot) -> Outcome
     requires { Opened t mem.old id slot }
     ensures { Answers (calls.disable_slot id) t mem.old result mem.new }
 {
-    let mut ended = walks::terminate_from(t, mem, id, slot.base, 1);
+    let ended = walks::terminate_from(t, mem, id, slot.base, 1);
+    // A table of its own: written within `ended`, it is copied once more.
+    let mut table = ended.table;
     let j = (id - 1) as usize;
-    ended.table.slots[j] = Slot::FREE;
+    table.slots[j] = Slot::FREE;
     outcome::success(
-        ended.table,
+        table,
         Tally {
             terminated: ended.terminated,
             stored: ended.stored,

@@ -10,11 +10,11 @@ use Rattle.commands.proofs.device.disable_slot.Goals as goal
 pub overflow_sub-j : goal.overflow_sub-j
 overflow_sub-j c = let f = opened_slot c.requires in search rules
 
-pub offset_bounds-ended-j : goal.offset_bounds-ended-j
-offset_bounds-ended-j c = let f = opened_slot c.requires in search rules
+pub offset_bounds-table-j : goal.offset_bounds-table-j
+offset_bounds-table-j c = let f = opened_slot c.requires in search rules
 
-pub bounds-ended-j : goal.bounds-ended-j
-bounds-ended-j c = let f = opened_slot c.requires in search rules
+pub bounds-table-j : goal.bounds-table-j
+bounds-table-j c = let f = opened_slot c.requires in search rules
 
 pub returns : goal.returns
 unfolding with_slot prog meaning commands.disable_slot
