@@ -5,7 +5,7 @@ use Rattle.std.specs.Prelude as std
 use Rattle.std.specs.Prelude.{Option, Some, None, Ok, Err}
 use Rattle.guest.specs.Bytes.{◌⊕◌, set_bits}
 use Rattle.guest.specs.Prog.{Mem, Prog, done, run, bind, Ends, Result, ok, and_then}
-use Rattle.commands.specs.Types.{Input, Endpoint, SlotState, Addressed, Slot, Table, Outcome}
+use Rattle.commands.specs.Types.{Input, Endpoint, SlotState, Addressed, Slot, Table, Answer, Outcome}
 use Rattle.definition.specs.declared.Refusal.{Refusal}
 use Rattle.definition.specs.Refusals.{code_of}
 use Rattle.definition.specs.Table.{slot_number, is_disabled, with_endpoint}
@@ -66,23 +66,27 @@ reaching absent id i input s t =
     and_then (step e input (s.base ⊕ 32 * i)) λ r.
     done (ok (stepped r, with_endpoint t id i r.endpoint))
 
+-- what a step answers
+abbrev pub step_answer : Taken → Answer
+step_answer r =
+    record {
+      code = r.code;
+      slot = 0;
+      launched = 0;
+      terminated = 0;
+      port = 0;
+      stored = r.stored;
+      submit = cond r.submit 1 0;
+      cancel = cond r.cancel 1 0;
+    }
+
+-- the table with the endpoint's record, and an answer
+abbrev pub applied_with : Table → ℕ → ℕ → Endpoint → Answer → Outcome
+applied_with t id i e a = record { table = with_endpoint t id i e; answer = a }
+
 -- the table with the endpoint's record, and the call's answer
 abbrev pub applied_to : Table → ℕ → ℕ → Taken → Outcome
-applied_to t id i r =
-    record {
-      table = with_endpoint t id i r.endpoint;
-      answer =
-          record {
-            code = r.code;
-            slot = 0;
-            launched = 0;
-            terminated = 0;
-            port = 0;
-            stored = r.stored;
-            submit = cond r.submit 1 0;
-            cancel = cond r.cancel 1 0;
-          };
-    }
+applied_to t id i r = applied_with t id i r.endpoint (step_answer r)
 
 -- .. or its refusal; `absent` is the code where there is no such endpoint
 abbrev pub settled_to : ℕ → Table → ℕ → ℕ → Option (std.Result Taken Refusal) → Outcome

@@ -3,7 +3,7 @@ ghost use Rattle.std.specs.Prelude.{◌≡◌, true, false, ◌*◌, ◌≤◌, 
 ghost use Rattle.guest.specs.Bytes.{◌⊕◌};
 ghost use Rattle.definition.specs.Table.{is_disabled, slot_of, well_formed};
 ghost use Rattle.endpoint.specs.Promises.{Ready};
-ghost use Rattle.commands.specs.Promises.{Settles, reaching, applied_to, Reaches};
+ghost use Rattle.commands.specs.Promises.{Settles, reaching, step_answer, applied_with, Reaches};
 
 use definition::{Answer, Endpoint, Input, Outcome, Refusal, Slot, Table};
 use endpoint::Taken;
@@ -26,26 +26,33 @@ pub fn settle(
     Some(endpoint::step(e, input, mem, at))
 }
 
-// The table with the endpoint's record, and the call's answer.
-pub fn applied(mut t: Table, id: u64, i: u64, taken: Taken) -> Outcome
-    requires { (1 ≤ id) × (id ≤ 16) × (1 ≤ i) × (i ≤ 31) }
-    ensures { result ≡ applied_to t id i taken }
+// What a step answers.
+pub fn answer_of(taken: Taken) -> Answer
+    ensures { result ≡ step_answer taken }
 {
-    let k = ((id - 1) * 31 + (i - 1)) as usize;
-    t.endpoints[k] = taken.endpoint;
-    Outcome {
-        table: t,
-        answer: Answer {
-            stored: taken.stored,
-            submit: u64::from(taken.submit),
-            cancel: u64::from(taken.cancel),
-            ..scan::answer(taken.code)
-        },
+    Answer {
+        stored: taken.stored,
+        submit: u64::from(taken.submit),
+        cancel: u64::from(taken.cancel),
+        ..scan::answer(taken.code)
     }
 }
 
+// The table with the endpoint's record, and the call's answer. (An answer, and no step: the contract takes any numbers.)
+pub fn applied(t: Table, id: u64, i: u64, endpoint: Endpoint, answer: Answer) -> Outcome
+    requires { (1 ≤ id) × (id ≤ 16) × (1 ≤ i) × (i ≤ 31) }
+    ensures { result ≡ applied_with t id i endpoint answer }
+{
+    let k = ((id - 1) * 31 + (i - 1)) as usize;
+    // A table of its own: an argument that is written is copied first.
+    let mut table = t;
+    table.endpoints[k] = endpoint;
+    Outcome { table, answer }
+}
+
 // Endpoint i of the slot takes the input. `absent` is the code where it is absent or disabled: 12, or 196 for a host event. (A number: the contract
-// takes any, and a narrower type would ask more.)
+// takes any, and a narrower type would ask more.) Opened in its caller, as the calls are (`slot_manager`).
+#[inline(always)]
 pub fn reach(
     t: Table,
     mem: &mut [u8],
@@ -66,8 +73,9 @@ pub fn reach(
     let Some(step) = settle(e, mem, slot, i, input) else {
         return scan::refused(t, absent);
     };
-    match step {
-        Ok(taken) => applied(t, id, i, taken),
-        Err(refusal) => scan::refuse(t, refusal),
-    }
+    let taken = match step {
+        Ok(taken) => taken,
+        Err(refusal) => return scan::refuse(t, refusal),
+    };
+    applied(t, id, i, taken.endpoint, answer_of(taken))
 }

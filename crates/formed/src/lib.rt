@@ -70,7 +70,8 @@ pub fn reset_device(t: Table, mem: &mut [u8], id: u64) -> Outcome
 }
 
 // What the calls that reach one endpoint share: endpoint i of slot id takes the input. `slotless` is the code where there is no such slot, `absent` where the
-// endpoint is absent or disabled. (Numbers: the contract takes any.)
+// endpoint is absent or disabled. (Numbers: the contract takes any.) It and these calls are opened in their callers, as in `slot_manager`.
+#[inline(always)]
 pub fn reach(
     t: Table,
     mem: &mut [u8],
@@ -89,6 +90,7 @@ pub fn reach(
     commands::reach::reach(t, mem, id, slot, i, input, absent)
 }
 
+#[inline(always)]
 pub fn stop_endpoint(t: Table, mem: &mut [u8], id: u64, i: u64) -> Outcome
     requires { Ready t mem.old }
     ensures { Answers (stop_endpoint id i) t mem.old result mem.new }
@@ -96,6 +98,7 @@ pub fn stop_endpoint(t: Table, mem: &mut [u8], id: u64, i: u64) -> Outcome
     reach(t, mem, id, i, Input::Stop, NO_SLOT, NO_ENDPOINT)
 }
 
+#[inline(always)]
 pub fn reset_endpoint(t: Table, mem: &mut [u8], id: u64, i: u64) -> Outcome
     requires { Ready t mem.old }
     ensures { Answers (reset_endpoint id i) t mem.old result mem.new }
@@ -103,6 +106,7 @@ pub fn reset_endpoint(t: Table, mem: &mut [u8], id: u64, i: u64) -> Outcome
     reach(t, mem, id, i, Input::Reset, NO_SLOT, NO_ENDPOINT)
 }
 
+#[inline(always)]
 pub fn set_dequeue(t: Table, mem: &mut [u8], id: u64, i: u64, place: Dequeue) -> Outcome
     requires { Ready t mem.old }
     ensures { Answers (set_dequeue id i place) t mem.old result mem.new }
@@ -118,6 +122,7 @@ pub fn set_dequeue(t: Table, mem: &mut [u8], id: u64, i: u64, place: Dequeue) ->
     )
 }
 
+#[inline(always)]
 pub fn doorbell(t: Table, mem: &mut [u8], id: u64, i: u64, look: Look) -> Outcome
     requires { Ready t mem.old }
     ensures { Answers (doorbell id i look) t mem.old result mem.new }
@@ -125,6 +130,7 @@ pub fn doorbell(t: Table, mem: &mut [u8], id: u64, i: u64, look: Look) -> Outcom
     reach(t, mem, id, i, Input::Doorbell(look), NO_SLOT, NO_ENDPOINT)
 }
 
+#[inline(always)]
 pub fn host_ok(t: Table, mem: &mut [u8], id: u64, i: u64, look: Look) -> Outcome
     requires { Ready t mem.old }
     ensures { Answers (host_ok id i look) t mem.old result mem.new }
@@ -132,6 +138,7 @@ pub fn host_ok(t: Table, mem: &mut [u8], id: u64, i: u64, look: Look) -> Outcome
     reach(t, mem, id, i, Input::Ok(look), STRAY, STRAY)
 }
 
+#[inline(always)]
 pub fn host_stall(t: Table, mem: &mut [u8], id: u64, i: u64, given: Option<Dequeue>) -> Outcome
     requires { Ready t mem.old }
     ensures { Answers (host_stall id i given) t mem.old result mem.new }
@@ -139,6 +146,7 @@ pub fn host_stall(t: Table, mem: &mut [u8], id: u64, i: u64, given: Option<Deque
     reach(t, mem, id, i, Input::Stall(given), STRAY, STRAY)
 }
 
+#[inline(always)]
 pub fn host_transaction_error(
     t: Table,
     mem: &mut [u8],
@@ -152,6 +160,7 @@ pub fn host_transaction_error(
     reach(t, mem, id, i, Input::TransactionError(given), STRAY, STRAY)
 }
 
+#[inline(always)]
 pub fn host_trb_error(t: Table, mem: &mut [u8], id: u64, i: u64) -> Outcome
     requires { Ready t mem.old }
     ensures { Answers (host_trb_error id i) t mem.old result mem.new }

@@ -139,8 +139,11 @@ pub fn reset_device(t: Table, mem: &mut [u8], id: u64) -> Outcome
 }
 
 // ---- calls that reach one endpoint
+//
+// They and `reach` are opened in their callers: a function of its own is handed the table and hands one back, two copies more.
 
 // Endpoint i of slot id takes the input. `slotless` and `absent` are the refusals where there is no such slot or endpoint.
+#[inline(always)]
 fn reach(
     t: Table,
     mem: &mut [u8],
@@ -162,13 +165,21 @@ fn reach(
     let Some(step) = commands::reach::settle(head.endpoint, mem, slot, i, input) else {
         return scan::refuse(t, absent);
     };
-    match step {
-        Ok(taken) => commands::reach::applied(t, id, i, taken),
-        Err(refusal) => scan::refuse(t, refusal),
-    }
+    let taken = match step {
+        Ok(taken) => taken,
+        Err(refusal) => return scan::refuse(t, refusal),
+    };
+    commands::reach::applied(
+        t,
+        id,
+        i,
+        taken.endpoint,
+        commands::reach::answer_of(taken),
+    )
 }
 
 // Stop Endpoint (xHCI 4.6.9).
+#[inline(always)]
 pub fn stop_endpoint(t: Table, mem: &mut [u8], id: u64, i: u64) -> Outcome
     ensures { Answers (stop_endpoint id i) t mem.old result mem.new }
 {
@@ -176,6 +187,7 @@ pub fn stop_endpoint(t: Table, mem: &mut [u8], id: u64, i: u64) -> Outcome
 }
 
 // Reset Endpoint (xHCI 4.6.8).
+#[inline(always)]
 pub fn reset_endpoint(t: Table, mem: &mut [u8], id: u64, i: u64) -> Outcome
     ensures { Answers (reset_endpoint id i) t mem.old result mem.new }
 {
@@ -183,6 +195,7 @@ pub fn reset_endpoint(t: Table, mem: &mut [u8], id: u64, i: u64) -> Outcome
 }
 
 // Set TR Dequeue Pointer (xHCI 4.6.10).
+#[inline(always)]
 pub fn set_dequeue(t: Table, mem: &mut [u8], id: u64, i: u64, place: Dequeue) -> Outcome
     ensures { Answers (set_dequeue id i place) t mem.old result mem.new }
 {
@@ -190,6 +203,7 @@ pub fn set_dequeue(t: Table, mem: &mut [u8], id: u64, i: u64, place: Dequeue) ->
 }
 
 // A doorbell, with what the look at the ring reports (xHCI 4.7).
+#[inline(always)]
 pub fn doorbell(t: Table, mem: &mut [u8], id: u64, i: u64, look: Look) -> Outcome
     ensures { Answers (doorbell id i look) t mem.old result mem.new }
 {
@@ -197,6 +211,7 @@ pub fn doorbell(t: Table, mem: &mut [u8], id: u64, i: u64, look: Look) -> Outcom
 }
 
 // The host has finished the transfer; with what the next look at the ring reports.
+#[inline(always)]
 pub fn host_ok(t: Table, mem: &mut [u8], id: u64, i: u64, look: Look) -> Outcome
     ensures { Answers (host_ok id i look) t mem.old result mem.new }
 {
@@ -204,6 +219,7 @@ pub fn host_ok(t: Table, mem: &mut [u8], id: u64, i: u64, look: Look) -> Outcome
 }
 
 // The device has stalled.
+#[inline(always)]
 pub fn host_stall(t: Table, mem: &mut [u8], id: u64, i: u64, given: Option<Dequeue>) -> Outcome
     ensures { Answers (host_stall id i given) t mem.old result mem.new }
 {
@@ -211,6 +227,7 @@ pub fn host_stall(t: Table, mem: &mut [u8], id: u64, i: u64, given: Option<Deque
 }
 
 // The transfer has failed on the bus.
+#[inline(always)]
 pub fn host_transaction_error(
     t: Table,
     mem: &mut [u8],
@@ -224,6 +241,7 @@ pub fn host_transaction_error(
 }
 
 // The TRB is in error.
+#[inline(always)]
 pub fn host_trb_error(t: Table, mem: &mut [u8], id: u64, i: u64) -> Outcome
     ensures { Answers (host_trb_error id i) t mem.old result mem.new }
 {

@@ -39,8 +39,8 @@ applied-requires c = let a = c.args in
     let q = reach_found c.settle.ensures (code_of a.absent) a.id a.t (head_record a.t _ a.id a.i c.opens.ensures c.in-Ok.is c.in-Some.is) c.in-Some-settle.is in
     (o.low, o.high, q.0, q.1)
 
-pub returns-in-Ok-step : goal.returns-in-Ok-step
-returns-in-Ok-step c = let a = c.args in
-    rw c.applied.ensures
+pub returns : goal.returns
+returns c = let a = c.args in
+    rw (c.applied.ensures, c.answer_of.ensures)
     (reached (code_of a.slotless) (code_of a.absent) a.i a.input (head_opens a.i c.opens.ensures c.in-Ok.is c.in-Some.is)
     (reach_applies c.settle.ensures (code_of a.absent) a.id a.t (head_record a.t _ a.id a.i c.opens.ensures c.in-Ok.is c.in-Some.is) c.in-Some-settle.is c.in-Ok-step.is))

@@ -37,10 +37,10 @@ returns-in-Err c = let a = c.args in
     rw c.refuse.ensures
     (reach_refuses c.settle.ensures a.absent a.id a.t (own_record a.t a.id a.i low high) c.in-Some.is c.in-Err.is)
 
-pub returns-in-Ok : goal.returns-in-Ok
+pub returns : goal.returns
 unfolding endpoint_of
-returns-in-Ok c = let a = c.args in
+returns c = let a = c.args in
     let low : 1 ≤ a.i = search rules in
     let high : a.i ≤ 31 = search rules in
-    rw c.applied.ensures
+    rw (c.applied.ensures, c.answer_of.ensures)
     (reach_applies c.settle.ensures a.absent a.id a.t (own_record a.t a.id a.i low high) c.in-Some.is c.in-Ok.is)
