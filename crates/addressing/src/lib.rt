@@ -90,6 +90,7 @@ fn second_address(
 }
 
 // The context check comes first, then the state.
+#[tactic(auto, using(crate::proofs::AddressLaws::attempt_unchecked))]
 pub fn attempt(
     mem: &mut [u8],
     slot: Slot,
