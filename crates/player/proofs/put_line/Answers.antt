@@ -1,8 +1,8 @@
 -- `player::put_line` meets its contract. Assumes nothing.
 use mathlib.Core.Path.{refl}
 use native.Mathlib.Omega.{arith}
-use Rattle.std.proofs.Common.{lit≤}
-use Rattle.player.proofs.LineLaws.{number_behind, count_behind, lining_begins, lining_goes, lining_ends}
+use Rattle.std.proofs.lemmas.Grind.{common_steps}
+use Rattle.player.proofs.LineLaws.{lining_begins, lining_goes, lining_ends}
 use Rattle.player.proofs.put_line.Goals as goal
 
 pub loop-n-init : goal.loop-n-init
@@ -10,16 +10,15 @@ loop-n-init c = lining_begins c.requires.room c.requires.eight c.put_number-end.
 
 pub loop-n-preserved : goal.loop-n-preserved
 loop-n-preserved c =
-    let all = count_behind 7 c.args.numbers.now c.requires.eight (lit≤ tt) in
     lining_goes
     c.loop-n.invariant
-    (omega arith)
+    (grind (arith, common_steps))
     c.requires.eight
     _
-    (number_behind 7 _ _ c.loop-n-test.true)
+    (grind (arith, common_steps))
     _
     refl
     c.put_number.ensures
 
 pub returns : goal.returns
-returns c = lining_ends c.loop-n.invariant (omega (arith, count_behind 7 c.args.numbers.now c.requires.eight (lit≤ tt)))
+returns c = lining_ends c.loop-n.invariant (grind (arith, common_steps))
