@@ -21,7 +21,7 @@ use Rattle.scan.specs.Types.{Endpoint, SlotState, Free, Enabled, Default, Addres
 use Rattle.std.specs.Prelude.{Ok, Err, is_ok}
 use Rattle.scan.specs.declared.Head.{Head}
 use Rattle.scan.specs.Records.{first_of, has_contexts, in_use, own_in, own_ok, clear}
-use Rattle.scan.specs.Heads.{Begun, begun, checked, record_at, head_of, head_for, found_in}
+use Rattle.scan.specs.Heads.{judged, code_for, Begun, begun, checked, record_at, head_of, head_for, found_in}
 
 -- ---- one record
 
@@ -190,6 +190,16 @@ bounds t id i {s = s} e u {inside} r h =
     let q = (used_slot t id s (used_is t id e u)).1 in
     let n = sym r ∙ h in
     (q.0, q.1, leb-true 1 i (and_left (leb 1 i) _ n), leb-true i 31 (and_right (leb 1 i) _ n))
+
+-- what the code tells of the table
+pub code_formed : (t : Table) (len : ℕ) {code : ℕ} → code ≡ code_for t len → not (eqb code 198) ≡ well_formed t
+unfolding code_for
+code_formed t len e = rw e (by (well_formed t) (eqb t.length len))
+  where
+    by : (b d : Bool) → not (eqb (judged b d) 198) ≡ b
+    by true true = refl
+    by true false = refl
+    by false d = refl
 
 -- ---- a call for no slot
 
