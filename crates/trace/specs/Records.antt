@@ -1,6 +1,6 @@
 -- What a record of 32 bytes tells: a call, a guest store of one byte, or nothing that it could, which is an error. docs/TRACE.md has the same in tables.
 -- Assumes nothing.
-use Rattle.std.specs.Prelude.{◌≡◌, Bool, true, false, cond, ◌&&◌, ◌||◌, List, [], ◌∷◌, ℕ, eqb, ltb, length, get_or, Result, Ok, Err}
+use Rattle.std.specs.Prelude.{Bool, true, false, cond, ◌&&◌, ◌||◌, List, [], ◌∷◌, ℕ, eqb, ltb, length, get_or, Result, Ok, Err}
 use Rattle.guest.specs.Bytes.{number, bit}
 use Rattle.guest.specs.Prog.{block}
 use Rattle.definition.specs.declared.Dequeue.{Dequeue}
@@ -183,7 +183,3 @@ unfoldable pub entry_of : ℕ → List ℕ → Result Entry BadRecord
 entry_of len r =
     let f = fields_of r in
     cond (eqb (length r) 32 && clean (uses_of f.kind) f) (told len f) bad
-
--- the fields tell r, whatever the memory's length
-abbrev pub Tells : Fields → Result Entry BadRecord → Type 0
-Tells f r = (len : ℕ) → r ≡ told len f
