@@ -9,8 +9,8 @@ use definition::{Dequeue, Look, Outcome, Table};
 
 // ---- the calls
 
-// A call. A loop knows some of them, and takes any other for the last of those that its comment names: by `_`, since what a C caller of bench_c's functions gets
-// for every number stays.
+// A call. A loop is given its number, knows some of the calls, and takes any other for the last of those that its comment names; but `bench_formed` takes 1, 2
+// and 3 for Evaluate Context. What a caller gets for every number stays.
 #[derive(Clone, Copy, Debug, PartialEq, Eq)]
 pub enum Call {
     Enable,
@@ -47,6 +47,11 @@ impl TryFrom<u64> for Call {
             _ => Err(NoCall(number)),
         }
     }
+}
+
+// The call with this number. A number that no call has stands for the doorbell, as a loop takes it for its last call.
+fn named(call: u64) -> Call {
+    Call::try_from(call).unwrap_or(Call::Doorbell)
 }
 
 const PLACE: Dequeue = Dequeue {
@@ -100,9 +105,9 @@ pub fn bench_enable(mem: &mut [u8], run: Run) -> u64 {
 }
 
 // Disable Slot or Reset Device.
-pub fn bench_slot(mem: &mut [u8], run: Run, call: Call, id: u64) -> u64 {
+pub fn bench_slot(mem: &mut [u8], run: Run, call: u64, id: u64) -> u64 {
     let start = stages::life(mem, run.stage);
-    match call {
+    match named(call) {
         Call::Disable => run.turns(
             start,
             |last, zero| *last = slot_manager::disable_slot(start, mem, id | zero),
@@ -115,9 +120,10 @@ pub fn bench_slot(mem: &mut [u8], run: Run, call: Call, id: u64) -> u64 {
 }
 
 // Address Device, Configure Endpoint or Evaluate Context. The flag is BSR or DC.
-pub fn bench_context(mem: &mut [u8], run: Run, call: Call, pointer: u64, flag: bool) -> u64 {
+pub fn bench_context(mem: &mut [u8], run: Run, call: u64, pointer: u64, flag: u64) -> u64 {
     let start = stages::life(mem, run.stage);
-    match call {
+    let flag = flag != 0;
+    match named(call) {
         Call::Address => run.turns(
             start,
             |last, zero| *last = slot_manager::address_device(start, mem, 1, pointer | zero, flag),
@@ -140,9 +146,9 @@ pub fn bench_context(mem: &mut [u8], run: Run, call: Call, pointer: u64, flag: b
 }
 
 // Stop Endpoint, Set Dequeue or a doorbell.
-pub fn bench_endpoint(mem: &mut [u8], run: Run, call: Call, id: u64, i: u64) -> u64 {
+pub fn bench_endpoint(mem: &mut [u8], run: Run, call: u64, id: u64, i: u64) -> u64 {
     let start = stages::life(mem, run.stage);
-    match call {
+    match named(call) {
         Call::Stop => run.turns(
             start,
             |last, zero| *last = slot_manager::stop_endpoint(start, mem, id | zero, i),
@@ -176,12 +182,12 @@ fn enable_formed(start: &Table, run: Run) -> u64
 }
 
 // Enable Slot, Evaluate Context with x as the pointer, Stop Endpoint or a doorbell to endpoint i of slot x, without the scan: the start is found well formed once.
-pub fn bench_formed(mem: &mut [u8], run: Run, call: Call, x: u64, i: u64) -> u64 {
+pub fn bench_formed(mem: &mut [u8], run: Run, call: u64, x: u64, i: u64) -> u64 {
     let start = stages::life(mem, run.stage);
     let Ok(()) = scan::checks(start, mem.len() as u64) else {
         return 0;
     };
-    match call {
+    match named(call) {
         Call::Enable => enable_formed(&start, run),
         Call::Disable | Call::Address | Call::Configure | Call::Evaluate => {
             run.turns(

@@ -1,12 +1,7 @@
 // The loops of `bench`, exported to C under their names (bench/driver.c declares them). Each has a run's three numbers one by one, as C passes them.
 #![tactic(auto)]
 
-use bench::{Call, Run};
-
-// The call with this number. A number that no call has stands for the doorbell, as a loop takes it for its last call.
-fn named(call: u64) -> Call {
-    Call::try_from(call).unwrap_or(Call::Doorbell)
-}
+use bench::Run;
 
 #[unsafe(no_mangle)]
 pub extern "C" fn bench_enable(mem: &mut [u8], n: u64, stage: u64, zero: u64) -> u64 {
@@ -22,7 +17,7 @@ pub extern "C" fn bench_slot(
     id: u64,
     zero: u64,
 ) -> u64 {
-    bench::bench_slot(mem, Run { n, stage, zero }, named(call), id)
+    bench::bench_slot(mem, Run { n, stage, zero }, call, id)
 }
 
 #[unsafe(no_mangle)]
@@ -35,7 +30,7 @@ pub extern "C" fn bench_context(
     flag: u64,
     zero: u64,
 ) -> u64 {
-    bench::bench_context(mem, Run { n, stage, zero }, named(call), pointer, flag != 0)
+    bench::bench_context(mem, Run { n, stage, zero }, call, pointer, flag)
 }
 
 #[unsafe(no_mangle)]
@@ -48,7 +43,7 @@ pub extern "C" fn bench_endpoint(
     i: u64,
     zero: u64,
 ) -> u64 {
-    bench::bench_endpoint(mem, Run { n, stage, zero }, named(call), id, i)
+    bench::bench_endpoint(mem, Run { n, stage, zero }, call, id, i)
 }
 
 #[unsafe(no_mangle)]
@@ -73,5 +68,5 @@ pub extern "C" fn bench_formed(
     i: u64,
     zero: u64,
 ) -> u64 {
-    bench::bench_formed(mem, Run { n, stage, zero }, named(call), x, i)
+    bench::bench_formed(mem, Run { n, stage, zero }, call, x, i)
 }

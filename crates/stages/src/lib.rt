@@ -45,7 +45,7 @@ fn step_after(k: u64) -> Step {
     }
 }
 
-// None of these is a public call, so that each of those has one caller in the bench, as in a controller.
+// None of these is a public call, so that each of those has one caller in the bench, as in a controller (the doorbell and Stop Endpoint have two).
 fn next(t: Table, mem: &mut [u8], step: Step) -> Outcome {
     if let Err(refusal) = scan::checks(t, mem.len() as u64) {
         return scan::refuse(t, refusal);

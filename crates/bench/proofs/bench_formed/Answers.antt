@@ -1,5 +1,5 @@
 -- `bench::bench_formed` meets its contract. Assumes nothing.
-use Rattle.std.proofs.Common.{◌≡◌, ℕ, length, rules}
+use Rattle.std.proofs.Common.{rules}
 use denote.Param.Always.{mut_by}
 use Rattle.formed.proofs.CallLaws.{ready_checked}
 use Rattle.formed.specs.Promises.{Ready}
@@ -15,8 +15,8 @@ pub turns-requires-in-Stop : goal.turns-requires-in-Stop
 turns-requires-in-Stop c =
     mut_by _ (λ s. Ready s.0.now s.1.now) (λ s a i. search rules) (λ s a r t i e. let m = e.met in search rules) _ (ready_checked c.checks.ensures c.in-Ok.is)
 
-pub turns-requires-in_default-call : goal.turns-requires-in_default-call
-turns-requires-in_default-call c =
+pub turns-requires-in_default-named : goal.turns-requires-in_default-named
+turns-requires-in_default-named c =
     mut_by _ (λ s. Ready s.0.now s.1.now) (λ s a i. search rules) (λ s a r t i e. let m = e.met in search rules) _ (ready_checked c.checks.ensures c.in-Ok.is)
 
 pub enable_formed-requires : goal.enable_formed-requires
