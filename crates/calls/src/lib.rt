@@ -1,6 +1,10 @@
 // The public calls of the slot manager: their names, one value for a call with what it brings, and how its answer is written.
 #![tactic(auto)]
 
+ghost use Rattle.std.specs.Prelude.{◌≡◌, slice_index_or};
+ghost use Rattle.calls.specs.declared.Call.TheVariants.{HostTransactionError};
+ghost use Rattle.calls.specs.declared.TheConstants.Call.{ALL};
+
 use definition::{Answer, Dequeue, Look, Outcome, Table};
 use std::fmt;
 
@@ -46,6 +50,18 @@ impl Call {
         Call::HostTransactionError,
         Call::HostTrbError,
     ];
+}
+
+// A call by its number, which is its place in `ALL`. A number past the last stands for a host's transaction error.
+impl From<usize> for Call {
+    ghost from_gives = { λ number call. call ≡ slice_index_or ALL number HostTransactionError };
+
+    fn from(number: usize) -> Call {
+        Call::ALL
+            .get(number)
+            .copied()
+            .unwrap_or(Call::HostTransactionError)
+    }
 }
 
 impl fmt::Display for Call {
