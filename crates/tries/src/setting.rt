@@ -1,4 +1,6 @@
 // The table and the memory that the calls are tried on.
+ghost use Rattle.std.specs.Prelude.{◌≤◌, length};
+
 use crate::record::Record;
 use definition::{Endpoint, EndpointState, Slot, SlotState, Table};
 use guest::words;
@@ -87,8 +89,9 @@ pub fn table() -> Table {
 }
 
 // Slot 2's DCBAA entry is at 272. Input contexts are at 2048, where endpoint 1 has a type and a dequeue word, and at 4032.
-pub(crate) fn memory(g: Guest) -> [u8; 4097] {
-    let mut mem = [0; 4097];
+pub fn fill(mem: &mut [u8], g: Guest)
+    requires { 4097 ≤ length mem.old }
+{
     for (at, n) in [
         (272, g.base),
         (2048, g.flags),
@@ -97,7 +100,13 @@ pub(crate) fn memory(g: Guest) -> [u8; 4097] {
         (2120, 3073),
         (1024, 0x0005_0000_0000_0000),
     ] {
-        words::store_u64(&mut mem, at, n);
+        words::store_u64(mem, at, n);
     }
+}
+
+// A memory of its own, filled.
+pub(crate) fn memory(g: Guest) -> [u8; 4097] {
+    let mut mem = [0; 4097];
+    fill(&mut mem, g);
     mem
 }

@@ -28,7 +28,7 @@ pub fn table(t: &Table) -> u64 {
     records(records(n, &t.slots), &t.endpoints)
 }
 
-fn memory(mem: &[u8]) -> u64 {
+pub fn memory(mem: &[u8]) -> u64 {
     mem.iter().fold(0, |n, b| half(n, u64::from(*b)))
 }
 
