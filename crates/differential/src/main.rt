@@ -6,7 +6,7 @@ ghost use Rattle.std.specs.Prelude.{◌≤◌, length};
 
 use definition::Table;
 use std::io;
-use std::io::{BufWriter, Write};
+use std::io::Write;
 
 fn fresh() -> Table {
     slot_manager::make_table(65536).table
@@ -36,13 +36,13 @@ fn play<W: Write>(
     let ran = match session::run(t, mem, records, &mut answers) {
         Ok(ran) => ran,
         Err(refused) => {
-            writeln!(out, "refused {}", u64::from(refused))?;
+            lines::line(out, format_args!("refused {}", u64::from(refused)))?;
             return Ok(None);
         }
     };
     player::show(out, &mut text, &answers, ran.answered)?;
     if ran.bad {
-        writeln!(out, "bad record")?;
+        out.write_all(b"bad record\n")?;
         return Ok(None);
     }
     Ok(Some(ran.table))
@@ -74,7 +74,7 @@ fn feed<W: Write>(
 
 fn main(rt: HostRuntime) -> io::Result<()> {
     let mut input = rt.stdin();
-    let mut out = BufWriter::new(rt.alloc(), io::writer(&rt))?;
+    let mut out = io::writer(&rt);
     // The input is read in parts of 2,048 records.
     let mut records = [0u8; 65536];
     let mut mem = [0u8; 65536];
@@ -83,13 +83,12 @@ fn main(rt: HostRuntime) -> io::Result<()> {
     for _ in 0..u64::MAX {
         let got = player::read_full(&mut input, &mut records)?;
         let Some(left) = feed(&mut out, t, &mut mem, &records[..got])? else {
-            return out.flush();
+            return Ok(());
         };
         t = left;
         if got < records.len() {
-            lines::end(&mut out, t, &mem)?;
-            return out.flush();
+            return lines::end(&mut out, t, &mem);
         }
     }
-    out.flush()
+    Ok(())
 }

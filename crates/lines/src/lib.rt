@@ -1,18 +1,36 @@
-// The lines at a session's end: the table and the memory.
+// The lines at a session's end: the table and the memory. Each is written by itself, and none needs the heap.
 #![tactic(auto)]
 
-ghost use Rattle.std.specs.Prelude.{◌≡◌, ◌↔◌, All, IsTrue};
+ghost use Rattle.std.specs.Prelude.{◌≡◌, ◌↔◌, All, IsTrue, IfSome, OnOk};
+ghost use Rattle.std.specs.Fmt.{with_newline};
+ghost use Rattle.std.specs.Io.KnownBytes.{Appends};
 
 use definition::{Endpoint, Slot, Table};
+use std::fmt::{InlineText, Write as _};
 use std::io::Write;
 use std::{fmt, io};
+
+// A value as a line, by one `write_all`: whoever gave the records may wait for their answers.
+// 128 bytes hold each line of this crate and of `differential`: a number has 20 digits at most, so the longest, a row of memory, has 93 bytes
+// at most, and 78 as it is. A longer text would be an error, with nothing written.
+pub fn line<W: Write, D: fmt::Display + Drop>(out: &mut W, shown: D) -> io::Result<()>
+    ensures { OnOk result (IfSome (with_newline (D.output shown)) (Appends (W.contents out.old) (W.contents out.new))) }
+{
+    let mut kept = InlineText::<128>::new();
+    writeln!(kept, "{shown}")?;
+    out.write_all(kept.as_str().as_bytes())
+}
 
 // ---- the table
 
 // `slot ID STATE BASE ENTRY`, where the slot is in use.
 fn slot<W: Write>(out: &mut W, id: usize, s: Slot) -> io::Result<()> {
     if !s.is_free() {
-        writeln!(out, "slot {id} {} {} {}", s.state.number(), s.base, s.entry)?;
+        let number = s.state.number();
+        line(
+            out,
+            format_args!("slot {id} {number} {} {}", s.base, s.entry),
+        )?;
     }
     Ok(())
 }
@@ -22,7 +40,10 @@ fn endpoint<W: Write>(out: &mut W, slot: usize, id: usize, e: Endpoint) -> io::R
     if !e.is_disabled() {
         let number = e.state.number();
         let cycle = u8::from(e.cycle);
-        writeln!(out, "endpoint {slot} {id} {number} {cycle} {}", e.pointer)?;
+        line(
+            out,
+            format_args!("endpoint {slot} {id} {number} {cycle} {}", e.pointer),
+        )?;
     }
     Ok(())
 }
@@ -51,14 +72,15 @@ pub fn zero(bytes: &[u8]) -> bool
     bytes.iter().all(|b| *b == 0)
 }
 
-// Bytes in hexadecimal, two digits each.
+// A row's bytes in hexadecimal, two digits each: eight bytes are one number, the first of them in front.
 #[derive(Drop)]
-struct Hex<'a>(&'a [u8]);
+struct Hex<'a>(&'a [u8; 32]);
 
 impl fmt::Display for Hex<'_> {
     fn fmt<W: fmt::Write>(&self, f: &mut fmt::Formatter<W>) -> fmt::Result {
-        for b in self.0 {
-            write!(f, "{b:02x}")?;
+        let bytes = self.0;
+        for word in bytes.as_chunks().0 {
+            write!(f, "{:016x}", u64::from_be_bytes(*word))?;
         }
         Ok(())
     }
@@ -66,9 +88,9 @@ impl fmt::Display for Hex<'_> {
 
 // `memory ADDRESS HEX`, for each 32 bytes that are not all zero.
 fn memory<W: Write>(out: &mut W, mem: &[u8; 65536]) -> io::Result<()> {
-    for (line, row) in mem.chunks_exact(32).enumerate() {
+    for (k, row) in mem.as_chunks::<32>().0.iter().enumerate() {
         if !zero(row) {
-            writeln!(out, "memory {} {}", 32 * line, Hex(row))?;
+            line(out, format_args!("memory {} {}", 32 * k, Hex(row)))?;
         }
     }
     Ok(())
