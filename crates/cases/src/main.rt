@@ -15,16 +15,21 @@ use std::io::{BufWriter, Write};
 fn run<W: Write>(out: &mut W, script: &Script) -> io::Result<()> {
     writeln!(out, "{}", script.setting)?;
     let mut machine = Machine::new(script.setting);
-    for act in &script.acts {
+    for act in script.acts {
         machine.perform(out, *act)?;
+    }
+    Ok(())
+}
+
+fn run_all<W: Write>(out: &mut W, scripts: &[Script]) -> io::Result<()> {
+    for script in scripts {
+        run(out, script)?;
     }
     Ok(())
 }
 
 fn main(rt: HostRuntime) -> io::Result<()> {
     let mut out = BufWriter::new(rt.alloc(), io::writer(&rt))?;
-    for script in &scripts::all(rt.alloc())? {
-        run(&mut out, script)?;
-    }
+    scripts::all(|scripts| run_all(&mut out, &scripts))?;
     out.flush()
 }

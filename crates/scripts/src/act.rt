@@ -16,10 +16,10 @@ impl fmt::Display for Setting {
     }
 }
 
-#[derive(Drop)]
-pub struct Script {
+#[derive(Clone, Copy)]
+pub struct Script<'a> {
     pub setting: Setting,
-    pub acts: Vec<Act>,
+    pub acts: &'a [Act],
 }
 
 #[derive(Clone, Copy)]

@@ -1,7 +1,8 @@
 // The scope document's cases, act by act, with what it expects.
 #![tactic(auto)]
 
-ghost use Rattle.std.specs.Prelude.{◌≡◌, ◌<◌, IfOk, vec_len};
+ghost use Rattle.std.specs.Prelude.{◌≡◌, ◌<◌, [], ◌∷◌, length, map};
+ghost use Rattle.scripts.specs.Acts.{acts_in};
 
 mod act;
 mod says;
@@ -9,7 +10,6 @@ mod says;
 pub use act::{Act, Call, Place, Script, Setting};
 use definition::Answer;
 use says::*;
-use std::alloc::{AllocError, Global};
 
 // A case at the end of the memory: its number, the base in slot 1's DCBAA entry, the input context's pointer, and what is expected.
 #[derive(Clone, Copy)]
@@ -80,21 +80,34 @@ const STOP: Call = Call::StopEndpoint { id: 1, endpoint: 3 };
 
 // ---- scripts
 
-fn script(alloc: Global, setting: Setting, acts: &[Act]) -> Result<Script, AllocError> {
-    Ok(Script {
-        setting,
-        acts: acts.to_vec(alloc)?,
-    })
+// A setting and N acts, which a script lends.
+#[derive(Clone, Copy)]
+struct Scene<const N: usize> {
+    setting: Setting,
+    acts: [Act; N],
 }
 
-fn enable(alloc: Global, limit: u64, case: u64, expected: Answer) -> Result<Script, AllocError> {
-    let acts = [Act::Try(case, Call::EnableSlot, expected)];
-    script(alloc, Setting { limit, ..USUAL }, &acts)
+impl<const N: usize> Scene<N> {
+    fn script(&self) -> Script<'_>
+        ensures { length result.acts.now ≡ N }
+    {
+        Script {
+            setting: self.setting,
+            acts: &self.acts,
+        }
+    }
+}
+
+fn enable(limit: u64, case: u64, expected: Answer) -> Scene<1> {
+    Scene {
+        setting: Setting { limit, ..USUAL },
+        acts: [Act::Try(case, Call::EnableSlot, expected)],
+    }
 }
 
 // Slot 1 is enabled and addressed twice; then it is configured, and endpoint 3 is stopped.
 // The bytes 2176 to 2207 are 0 but for the type, and the launch stores 1 over the first copy.
-fn life(alloc: Global) -> Result<Script, AllocError> {
+fn life() -> Scene<22> {
     let acts = [
         Act::Call(Call::EnableSlot),
         Act::Try(3, address(1, P, true), ADDRESSED),
@@ -119,21 +132,27 @@ fn life(alloc: Global) -> Result<Script, AllocError> {
         Act::Try(8, STOP, STOPPED),
         Act::Try(8, STOP, WRONG_STATE),
     ];
-    script(alloc, USUAL, &acts)
+    Scene {
+        setting: USUAL,
+        acts,
+    }
 }
 
 // Address Device, BSR=0, of slot 1, just enabled.
-fn addressed(alloc: Global, edge: Edge) -> Result<Script, AllocError> {
+fn addressed(edge: Edge) -> Scene<2> {
     let acts = [
         Act::Call(Call::EnableSlot),
         Act::Try(edge.case, address(1, edge.pointer, false), edge.expected),
     ];
-    script(alloc, edge.setting(), &acts)
+    Scene {
+        setting: edge.setting(),
+        acts,
+    }
 }
 
 // Configure Endpoint, DC=0, of slot 1, Addressed: endpoint 31 is added.
 // "flags D=0, A=2^31 at P, and 56 at P+1028, stored by the guest just before the call"
-fn added(alloc: Global, edge: Edge) -> Result<Script, AllocError> {
+fn added(edge: Edge) -> Scene<5> {
     let at = edge.pointer as usize;
     let acts = [
         Act::Call(Call::EnableSlot),
@@ -142,16 +161,22 @@ fn added(alloc: Global, edge: Edge) -> Result<Script, AllocError> {
         Act::Byte(at + 1028, TYPE_7),
         Act::Try(edge.case, configure(1, edge.pointer), edge.expected),
     ];
-    script(alloc, edge.setting(), &acts)
+    Scene {
+        setting: edge.setting(),
+        acts,
+    }
 }
 
-fn wrapping(alloc: Global) -> Result<Script, AllocError> {
+fn wrapping() -> Scene<3> {
     let acts = [
         Act::Call(Call::EnableSlot),
         Act::Try(13, address(1, WRAPPING, false), ADDRESSED),
         Act::Try(13, configure(1, WRAPPING), OUTSIDE),
     ];
-    script(alloc, USUAL, &acts)
+    Scene {
+        setting: USUAL,
+        acts,
+    }
 }
 
 // ---- the most bytes stored
@@ -169,60 +194,54 @@ fn full(id: u64) -> [Act; 4]
 }
 
 // The input context adds endpoints 2 to 31, all of type 7, and slots 1 to 16 take it. Then slot 1 drops and adds them, and all slots are reset.
-fn most_acts(alloc: Global) -> Result<Vec<Act>, AllocError>
-    ensures { IfOk result (λ acts. vec_len acts ≡ 99) }
-{
-    let mut acts = vec![in alloc; Act::Word(2048, ADDS)]?;
+fn most_acts() -> [Act; 99] {
+    // The first act, in all places until the others are written.
+    let mut acts = [Act::Word(2048, ADDS); 99];
+    let mut next = 1;
     for endpoint in 2..32 {
-        acts.push(Act::Byte(2084 + 32 * endpoint, TYPE_7))?;
+        acts[next] = Act::Byte(2084 + 32 * endpoint, TYPE_7);
+        next += 1;
     }
     for id in 1..17 {
-        acts.extend_from_slice(&full(id))?;
+        acts[next..next + 4].copy_from_slice(&full(id));
+        next += 4;
     }
-    acts.extend_from_slice(&[
+    acts[next..].copy_from_slice(&[
         Act::Word(2048, DROPS_AND_ADDS),
         Act::Try(14, configure(1, P), REPLACED),
         Act::Try(15, Call::ResetAll, ALL_RESET),
         Act::Try(16, Call::EnableSlot, NO_SLOTS),
-    ])?;
-    Ok(acts)
+    ]);
+    acts
 }
 
-fn most(alloc: Global) -> Result<Script, AllocError> {
-    Ok(Script {
+fn most() -> Scene<99> {
+    Scene {
         setting: Setting { limit: 16, ..USUAL },
-        acts: most_acts(alloc)?,
-    })
+        acts: most_acts(),
+    }
 }
 
 // ---- all
 
-// All scripts, in the order of their cases.
-pub fn all(alloc: Global) -> Result<Vec<Script>, AllocError>
-    ensures { IfOk result (λ scripts. vec_len scripts ≡ 13) }
+// Lends all scripts, in the order of their cases, and answers what is answered to them. The clause says how many acts each has.
+pub fn all<T, F: FnOnce([Script<'_>; 13]) -> T>(read: F) -> T
+    requires { F.IsAlwaysCallable read }
+    ensures { (scripts : _) × (map acts_in scripts ≡ 1 ∷ 1 ∷ 22 ∷ 2 ∷ 2 ∷ 2 ∷ 2 ∷ 5 ∷ 5 ∷ 5 ∷ 5 ∷ 3 ∷ 99 ∷ []) × F.post read scripts result }
 {
-    let mut scripts = vec![in alloc;
-        enable(alloc, 4, 1, ENABLED)?,
-        enable(alloc, 0, 2, NO_SLOTS)?,
-        life(alloc)?,
-    ]?;
-    for edge in [
-        Edge::new(9, 4032, P, ADDRESSED),
-        Edge::new(9, 4033, P, OUTSIDE),
-        Edge::new(10, USUAL.base, 4000, ADDRESSED),
-        Edge::new(10, USUAL.base, 4001, OUTSIDE),
-    ] {
-        scripts.push(addressed(alloc, edge)?)?;
-    }
-    for edge in [
-        Edge::new(11, 3072, P, ADDED_31),
-        Edge::new(11, 3073, P, OUTSIDE),
-        Edge::new(12, USUAL.base, 3040, ADDED_31),
-        Edge::new(12, USUAL.base, 3041, OUTSIDE),
-    ] {
-        scripts.push(added(alloc, edge)?)?;
-    }
-    scripts.push(wrapping(alloc)?)?;
-    scripts.push(most(alloc)?)?;
-    Ok(scripts)
+    read([
+        enable(4, 1, ENABLED).script(),
+        enable(0, 2, NO_SLOTS).script(),
+        life().script(),
+        addressed(Edge::new(9, 4032, P, ADDRESSED)).script(),
+        addressed(Edge::new(9, 4033, P, OUTSIDE)).script(),
+        addressed(Edge::new(10, USUAL.base, 4000, ADDRESSED)).script(),
+        addressed(Edge::new(10, USUAL.base, 4001, OUTSIDE)).script(),
+        added(Edge::new(11, 3072, P, ADDED_31)).script(),
+        added(Edge::new(11, 3073, P, OUTSIDE)).script(),
+        added(Edge::new(12, USUAL.base, 3040, ADDED_31)).script(),
+        added(Edge::new(12, USUAL.base, 3041, OUTSIDE)).script(),
+        wrapping().script(),
+        most().script(),
+    ])
 }
