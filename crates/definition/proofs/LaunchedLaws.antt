@@ -215,12 +215,12 @@ module _ (t : Table) (m : Mem) (id P : ℕ) (z : Sized t) where
       }
 
   module _ (n : IsSlot id) (i : ℕ) (is : List ℕ) (ws : List Store) (w : Walk) (d : Adding-on (i ∷ is) ws w) where
-    abbrev Some : ℕ
-    Some = (slot_of t id).base ⊕ 32 * i
+    abbrev At : ℕ
+    At = (slot_of t id).base ⊕ 32 * i
 
     -- the endpoint that this turn adds
     abbrev Made : Endpoint
-    Made = waiting (block (splice (splice (applied m ws) Some (block (applied m ws) (P ⊕ 32 * (i + 1)) 32)) Some (1 ∷ [])) (Some + 8) 8)
+    Made = waiting (block (splice (splice (applied m ws) At (block (applied m ws) (P ⊕ 32 * (i + 1)) 32)) At (1 ∷ [])) (At + 8) 8)
 
     made_holds : Holds i (with_endpoint w.table id i Made)
     unfolding Holds
@@ -229,7 +229,7 @@ module _ (t : Table) (m : Mem) (id P : ℕ) (z : Sized t) where
         let a = (all_head d.left).0 in
         let long : length (applied m ws) ≡ length m = applied_length ws m in
         endpoint_here w.table id i Made d.sized n (omega arith)
-        ∙ ap waiting (launch_word (applied m ws) Some (P ⊕ 32 * (i + 1)) (omega arith) (omega arith)
+        ∙ ap waiting (launch_word (applied m ws) At (P ⊕ 32 * (i + 1)) (omega arith) (omega arith)
         ∙ block_kept m ws (WordAt i) 8 (λ x v q. clear x v (before_up i h.0 (d.stored x q))))
 
     low_here : w.launched < 2 ^ i

@@ -111,6 +111,14 @@ number_eight_at m a h =
     let e : take 8 (block m a 8) ≡ block m a 8 = take_all 8 (block m a 8) (omega (arith, n)) in
     rw e at (number_eight_of (block m a 8) (omega (arith, n)))
 
+-- the four bytes of a number of 32 bits, each by its own division
+pub bytes_four : (x : ℕ) → x < 2 ^ 32 → bytes 4 x ≡ x % 256 ∷ x / 256 % 256 ∷ x / 65536 % 256 ∷ x / 16777216 ∷ []
+unfolding bytes
+bytes_four x h =
+    let a : x / 65536 ≡ x / 256 / 256 = omega arith in
+    let b : x / 16777216 ≡ x / 256 / 256 / 256 % 256 = omega arith in
+    rw (a, b) refl
+
 -- the bytes of a number of 64 bits
 pub bytes_eight : (x : ℕ) → to_le_bytes w64 x ≡ bytes 8 x
 unfolding bytes

@@ -195,7 +195,7 @@ fn full(id: u64) -> [Act; 4]
 
 // The input context adds endpoints 2 to 31, all of type 7, and slots 1 to 16 take it. Then slot 1 drops and adds them, and all slots are reset.
 fn most_acts() -> [Act; 99] {
-    // The first act, in all places until the others are written.
+    // The first act, in all places until the others are written. The places are counted: a `Vec` would push, and wants the heap.
     let mut acts = [Act::Word(2048, ADDS); 99];
     let mut next = 1;
     for endpoint in 2..32 {

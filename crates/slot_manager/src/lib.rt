@@ -169,13 +169,7 @@ fn reach(
         Ok(taken) => taken,
         Err(refusal) => return scan::refuse(t, refusal),
     };
-    commands::reach::applied(
-        t,
-        id,
-        i,
-        taken.endpoint,
-        commands::reach::answer_of(taken),
-    )
+    commands::reach::applied(t, id, i, taken.endpoint, commands::reach::answer_of(taken))
 }
 
 // Stop Endpoint (xHCI 4.6.9).

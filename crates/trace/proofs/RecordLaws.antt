@@ -14,7 +14,12 @@ use Rattle.trace.specs.declared.record.Fields.{Fields}
 use Rattle.trace.specs.declared.record.Kind.{Kind}
 use Rattle.trace.specs.declared.record.Kind.TheVariants as kind
 use Rattle.trace.specs.Kinds.{number_of}
-use Rattle.trace.specs.Records.{fields_of, uses_of, clean, bad, store_of, entries, told, entry_of}
+use Rattle.trace.specs.Records.{fields_of, kinds, nothing, uses_of, clean, bad, store_of, entries, told, entry_of}
+
+-- a kind past the last uses nothing
+pub uses_unknown : (k : ℕ) → 18 < k → nothing ≡ uses_of k
+unfolding uses_of
+uses_unknown k h = sym (get_or-eq_default kinds nothing h)
 
 -- a number that no kind has, if it is not 0, is past them all
 above_all : (n : ℕ) → ((k : Kind) → n ≢ number_of k) → 0 < n → 19 ≤ n
