@@ -89,7 +89,7 @@ fn second_address(
     Ok(copy_contexts(mem, from, addressed, 2, ended.stored))
 }
 
-// The context check comes first, then the state.
+// The context check comes first, then the state. (`attempt_unchecked` is for the edit `context_error_as_state`, which has a way out of its own for it.)
 #[tactic(auto, using(crate::proofs::AddressLaws::attempt_unchecked))]
 pub fn attempt(
     mem: &mut [u8],

@@ -160,3 +160,7 @@ module _ {id : ℕ} {s : Slot} {t : Table} {m : Mem} (o : Opened t m id s) (P : 
   pub configured : {f : Flags} {r : Outcome} {m' : Mem} → k ≡ Ok f → Carries (walking id P s f t) m 0 r m' → Answers (configure_endpoint id P dc) t m r m'
   unfolding prog
   configured {f} e h = meets_as t (opens P dc o) (settles_as t _ (walking id P s f t) ((planned e).runs id t) (carried t h))
+
+-- a slot that is neither Addressed nor Configured
+pub configure_unsettled : {id : ℕ} {s : Slot} {t : Table} {m : Mem} → Opened t m id s → (P : ℕ) (dc : Bool) → is_settled s.state ≡ false → Answers (configure_endpoint id P dc) t m (refusal t 19) m
+configure_unsettled {id} {s} {t} {m} o P dc e = configure_refused o P dc (Err State) (plan_unsettled P s m dc e) refl

@@ -55,6 +55,8 @@ fn plan_of(mem: &[u8], slot: Slot, pointer: u64, dc: bool) -> Result<Flags, Refu
 }
 
 // All drops, then all adds, then the slot state byte.
+// (`configure_unsettled` is for the edit `unsettled_answers_one`, which refuses such a slot here.)
+#[tactic(auto, using(crate::proofs::ConfigureLaws::configure_unsettled))]
 pub fn configure_endpoint(
     t: Table,
     mem: &mut [u8],
