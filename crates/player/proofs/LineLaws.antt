@@ -6,6 +6,7 @@ use Prim.Native.Nat.{ℕ, ◌+◌, ◌-◌, ◌*◌, ◌^◌, ◌≤◌, ◌<◌
 use native.Mathlib.Nat.{pow-le-pow_right}
 use native.Mathlib.Numerals.{add-one}
 use Rattle.std.proofs.Common.{zero-add}
+use Rattle.std.proofs.lemmas.Grind.{common_steps}
 use native.Mathlib.Omega.{arith}
 use native.Mathlib.Decide.{dec_le}
 use lib.ListN.{length, take, drop, set, get_or, length-append}
@@ -59,6 +60,13 @@ pub record Lining (ns l : List ℕ) (end i : ℕ) (l' : List ℕ) : Type 0 where
   pub spaced : Spaced (take i ns) bytes
   pub count : end ≡ length bytes
   pub text : l' ≡ splice l 0 bytes
+
+-- among the first m numbers behind the first one
+pub number_behind : (m : ℕ) (ns : List ℕ) (k : ℕ) → k < length (take m (drop 1 ns)) → get_or (take m (drop 1 ns)) k 0 ≡ get_or ns (k + 1) 0
+number_behind m ns k h = grind (arith, common_steps)
+
+pub count_behind : (m : ℕ) (ns : List ℕ) → 8 ≤ length ns → m ≤ 7 → length (take m (drop 1 ns)) ≡ m
+count_behind m ns h w = grind (arith, common_steps)
 
 pub lining_begins : {ns l : List ℕ} {r : ℕ} {l' : List ℕ} → 168 ≤ length l → 8 ≤ length ns → PutsNumber (get_or ns 0 0) l r l' → Lining ns l r 1 l'
 lining_begins {ns} {l} w h p =
